@@ -59,7 +59,8 @@ WELL = f'case "$1" in build) {BUILD} ;; run) {PROGRAM} ;; ci) {CI} ;; must-fail)
 STUB = "print('1 passed, 0 failed')\n"
 PROMISE = "use {}::Count;\n\npub fn sum() -> Count\n    ensures {{ result ≡ {} }}\n{{\n    {}\n}}\n"
 PRIVATE = "use low::other::one;\n\nfn more() -> u64\n    ensures { result ≡ 1 }\n{\n    one()\n}\n"
-CALLER = "use low::sum;\n\npub fn high() -> u64\n    ensures { result ≡ 4 }\n{\n    sum()\n}\n"
+CALLER = "use low::{plain, sum};\n\npub fn high() -> u64\n    ensures { result ≡ 4 }\n{\n    sum()\n}\n"
+PLAIN = "\npub fn plain() -> u64 {{\n    {}\n}}\n"
 OTHER = "\npub fn other() -> u64\n    ensures { result ≡ 1 }\n{\n    1\n}\n"
 # What is no stub: the scripts that the checks look at.
 REAL = {"edits.py", "gate.py", "parts.py", "promises.py", "quick.py", "try_edits.py"}
@@ -357,6 +358,8 @@ def stale_edits(kit):
         (lambda: source.write_text(f"//! Another thing.\n{PROMISE.format('low', 5, '2 + 2')}{PRIVATE}"), low + high),
         (lambda: source.write_text(f"//! Another thing.\n{PROMISE.format('low::whole', 5, '2 + 2')}{PRIVATE}"), low + high),
         (lambda: source.write_text(f"//! Another thing.\n{PROMISE.format('low::whole', 5, '2 + 2')}{OTHER}"), low),
+        (lambda: source.write_text(f"{PROMISE.format('low', 4, 4)}{PLAIN.format(4)}"), low + high),
+        (lambda: source.write_text(f"{PROMISE.format('low', 4, 4)}{PLAIN.format(5)}"), low),
         (lambda: (kit.repository / "crates" / low[0].replace("/", "/must-fail/")).write_text("refused\n\n"), low[:1]),
         (lambda: file.write_text("".join(f"{it.split()[0]} {'0' * 64 if it.startswith(high[0]) else it.split()[1]}\n" for it in kit.record())), high[:1]),
         (lambda: file.write_text("".join(f"{it}\n" for it in kit.record() if not it.startswith(high[1]))), high[1:2]),

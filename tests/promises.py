@@ -1,6 +1,6 @@
 """What crates promise to those above them, and what of it a crate can come to.
 
-A proof sees of the crates below their declarations: types, clauses, definitions and lemmas, and no body that has clauses.
+A proof sees of the crates below their declarations: types, clauses, definitions and lemmas, and no body of a function.
 And it comes only to what is named: by its own crate, or by a declaration that it comes to. So of the crates below a crate
 rests on the declarations that are reached by names, from its own files on. A name stands for what its file takes in under
 it, or declares: a type of a crate is `crate:Type`, whatever its module, a definition or lemma `crate.specs.Module.name`.
@@ -17,6 +17,9 @@ FUNCTION = re.compile(
     r"(?P=depth)\{\n(?P<body>(?:(?!(?P=depth)\}$).*\n)*)(?P=depth)\}\n",
     re.MULTILINE,
 )
+# Where a function begins, but for one that is computed before the program runs.
+BEGINS = re.compile(r"^( *)(?:pub(?:\([^)]*\))? )?(?:unsafe )?fn ")
+CLAUSE = re.compile(r"^ *(?:requires|ensures|decreases)\b")
 # What no other crate sees of a file: comments, how a body is compiled or proved, and empty lines.
 UNSEEN = re.compile(r"^ *//.*\n|^ *#!?\[(?:inline|cold|tactic).*\]\n|^\n", re.MULTILINE)
 REMARK = re.compile(r"^ *--.*\n", re.MULTILINE)
@@ -112,6 +115,23 @@ def promise(found):
     return f"{found.string[found.start() : found.start('body')]}{found['depth']}}}\n"
 
 
+def without_bodies(text):
+    """The text without the bodies of functions. Where a function has clauses, its body begins with a line of one brace."""
+    left, closing, is_head, has_clauses = [], None, False, False
+    for line in text.splitlines(keepends=True):
+        if closing and line != closing:
+            continue
+        left.append(line)
+        if began := not closing and BEGINS.match(line):
+            depth, is_head, has_clauses = began[1], True, False
+        closing, has_clauses = None, has_clauses or bool(CLAUSE.match(line))
+        if is_head and (line == f"{depth}{{\n" or (not has_clauses and line.endswith("{\n"))):
+            closing, is_head = f"{depth}}}\n", False
+        elif is_head and (line.endswith(";\n") or (not has_clauses and line.endswith("}\n"))):
+            is_head = False
+    return "".join(left)
+
+
 def blocks(text):
     """What stands at the outermost depth of a source that `rt fmt` has laid out."""
     block = ""
@@ -147,7 +167,7 @@ def of_source(text, crate):
     passed_on = taken_in(re.findall(r"^pub use ([^;]*);\n", text, re.MULTILINE), crate)
     for name, found in passed_on.items():
         yield Declaration(frozenset({f"{crate}:{name}"}), f"use {sorted(found)}", frozenset(key for key, _ in found))
-    text = FUNCTION.sub(promise, UNSEEN.sub("", text))
+    text = without_bodies(FUNCTION.sub(promise, UNSEEN.sub("", text)))
     modelled, taken = {*MODEL.findall(text)}, taken_in(USE.findall(text), crate)
     parts = [*blocks(INSIDE.sub("", USE.sub("", text)))]
     for name in {name for it in parts if not HEAD.match(it) for name in names_of(it, taken)}:
