@@ -11,7 +11,6 @@ ghost use Rattle.serde_json.specs.Written.{compact_text, outline};
 ghost use Rattle.pana_wire.specs.inner.Names.{IsSumOrNone};
 ghost use Rattle.pana_wire.specs.inner.Pieces.{number_tokens, text_tokens};
 
-use itoa::Buffer;
 use json::Writer;
 use pana_copies::Sum;
 use std::alloc::{AllocError, Global};
@@ -38,7 +37,7 @@ impl WriteJson for u64 {
     ghost json = { number_data };
 
     fn write(&self, out: &mut Writer<Global>) -> Result<(), AllocError> {
-        write_digits(out, *self)
+        out.u64(*self)
     }
 }
 
@@ -53,18 +52,6 @@ impl<T: WriteJson> WriteJson for Option<T> {
             None => out.null(),
         }
     }
-}
-
-/// Writes a number. Fails only where memory runs out.
-///
-/// The kit's `u64` does the same and isn't inlined, which costs a page of the journal a sixth of its time.
-#[inline(always)]
-fn write_digits(out: &mut Writer<Global>, number: u64) -> Result<(), AllocError>
-    ensures tokens { OnOk result (out.new.tokens ≡ out.old.tokens ++ Token.number (decimal number) ∷ []) }
-    ensures before { OnOk result (out.new.before ≡ out.old.before) }
-{
-    let mut digits = Buffer::new();
-    out.number(digits.format(number))
 }
 
 /// Writes a member: its name and its content. Fails only where memory runs out, as those below.
@@ -82,7 +69,7 @@ pub(crate) fn write_number(
     ensures number { number < 2 ^ 64 }
 {
     out.key(name)?;
-    write_digits(out, number)
+    out.u64(number)
 }
 
 /// The text of a number of one digit.
@@ -118,7 +105,7 @@ pub(crate) fn write_count(
     out.key(name)?;
     match digit(count) {
         Some(text) => out.number(text),
-        None => write_digits(out, count),
+        None => out.u64(count),
     }
 }
 
