@@ -9,7 +9,7 @@ from pathlib import Path
 TOP = Path(__file__).resolve().parent.parent
 PARTS = ("src", "specs", "proofs")
 PROGRAM = "panad"
-# As many lines of code take as long as one crate more that a crate uses.
+# For as many lines of code one crate more counts that a crate uses. Of what was tried this has the last crate proved first.
 LINES_A_CRATE = 130
 # How many crates are proved at the same time at most, and how much memory a prover has been seen to take.
 MANY, BYTES_A_PROVER = 4, 4_000_000_000
