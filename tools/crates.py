@@ -12,7 +12,7 @@ PROGRAM = "panad"
 # For as many lines of code one crate more counts that a crate uses. Of what was tried this has the last crate proved first.
 LINES_A_CRATE = 130
 # How many crates are proved at the same time at most, and how much memory a prover has been seen to take.
-MANY, BYTES_A_PROVER = 4, 4_000_000_000
+MANY, BYTES_A_PROVER = 4, 3_750_000_000
 AVAILABLE = re.compile(r"^MemAvailable:\s+(\d+) kB$", re.MULTILINE)
 
 
