@@ -11,8 +11,9 @@ PARTS = ("src", "specs", "proofs")
 PROGRAM = "panad"
 # For as many lines of code one crate more counts that a crate uses. Of what was tried this has the last crate proved first.
 LINES_A_CRATE = 130
-# How many crates are proved at the same time at most, and how much memory a prover has been seen to take.
-MANY, BYTES_A_PROVER = 4, 3_750_000_000
+# How many crates are proved at the same time where memory allows, and where not; and for how much of it each counts: a prover
+# has been seen to take 2.9 gigabytes.
+MANY, FEW, BYTES_A_PROVER = 4, 2, 3_750_000_000
 AVAILABLE = re.compile(r"^MemAvailable:\s+(\d+) kB$", re.MULTILINE)
 
 
@@ -69,8 +70,8 @@ def most_at_once():
         found = AVAILABLE.search(Path("/proc/meminfo").read_text(encoding="ascii"))
     except OSError:
         found = None
-    fitting = int(found[1]) * 1024 // BYTES_A_PROVER if found else 1
-    return max(1, min(MANY, os.cpu_count() or 1, fitting))
+    fitting = int(found[1]) * 1024 // BYTES_A_PROVER if found else FEW
+    return min(os.cpu_count() or 1, max(FEW, min(MANY, fitting)))
 
 
 class Waiting:

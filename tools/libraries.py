@@ -78,11 +78,13 @@ class BuildFolder:
         return [self.kit / "bin/rattle-link", "--target", TARGET, "--toolchain", self.kit / "toolchain", "-o", self.program, self.object, *libraries]
 
     def pack(self, name):
-        """Packs a library. Where that fails it stays as it is."""
-        if tar("-cf", self.packed(name), self.library(name)):
+        """Packs a library. Where that fails, or is broken off, it stays as it is."""
+        new = self.packed(name).with_suffix(".new")
+        if tar("-cf", new, self.library(name)):
+            new.replace(self.packed(name))
             shutil.rmtree(self.library(name))
         else:
-            self.packed(name).unlink(missing_ok=True)
+            new.unlink(missing_ok=True)
 
     def unpack(self, name):
         """Unpacks a library that was packed. Where that fails it is proved again."""
