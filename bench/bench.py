@@ -4,14 +4,17 @@
 usage: bench.py PROGRAM [--beside OTHER] [--only NAME,..] [--scale X] [--rounds N] [--seed S]
 PROGRAM is the built program, .build/panad. OTHER is another program with the command `run`, if there is one to compare
 with. Beside it run a bare echo of lines (echo.c), `jq -c .`, `sha256sum` and a Redis server, each where it is there.
-All are given the same lines, in turn, and of N rounds (20) the best counts, so other work on the machine shows little.
+All are given the same lines, in turn, and of N rounds (20) the best counts, so other work on the machine shows little. OTHER
+must print what PROGRAM does.
 Processor time is what the kernel counts for the process, user and system together. Of lines the time for what comes
 before, which is measured by itself, is taken off. It judges nothing.
 """
 from __future__ import annotations
 
 import argparse
+import filecmp
 import os
+import random
 import re
 import shutil
 import subprocess
@@ -28,6 +31,7 @@ HERE = Path(__file__).resolve().parent
 # Where files cost the least.
 ROOMS = Path("/dev/shm")
 FILES = 10_000
+ENTRIES = 50_000
 FILE_BYTES = 4096
 SECONDS_BETWEEN_LOOKS = 0.002
 MOST_MEMORY = re.compile(r"^VmHWM:\s+(\d+) kB$", re.MULTILINE)
@@ -50,9 +54,9 @@ def most_memory(process):
     return int(found[1]) / 1024 if found else 0.0
 
 
-def run(words, given, folder=None):
-    """Runs a program on a file, and returns what it used. What it prints goes to a file in memory."""
-    with open(given, "rb") as stdin, open(given.with_name("printed"), "wb") as stdout:
+def run(words, given, folder=None, name="any"):
+    """Runs a program on a file, and returns what it used. What it prints goes to a file in memory, beside that file."""
+    with open(given, "rb") as stdin, open(given.with_name(f"{name}.printed"), "wb") as stdout:
         child = subprocess.Popen(words, stdin=stdin, stdout=stdout, stderr=subprocess.DEVNULL, cwd=folder)
         memory = 0.0
         while (ended := os.wait4(child.pid, os.WNOHANG))[0] == 0:
@@ -100,6 +104,13 @@ def ratio(ours, theirs):
     return f"{theirs / ours:.2f}" if theirs else "-"
 
 
+def must_agree(room, name):
+    """Ends the program where ours and the other have printed different answers."""
+    ours, other = room / "panad.printed", room / "other.printed"
+    if other.exists() and not filecmp.cmp(ours, other, shallow=False):
+        raise SystemExit(f"bench.py: {name}: the answers differ")
+
+
 class Lines:
     """Workloads of lines, which programs answer from standard input."""
 
@@ -121,8 +132,9 @@ class Lines:
         measures = {}
         for name, words in self.programs.items():
             measures[name, "before"] = lambda words=words: run(words, before)
-            measures[name, "all"] = lambda words=words: run(words, all)
+            measures[name, "all"] = lambda words=words, name=name: run(words, all, name=name)
         found = best(self.options.rounds, measures)
+        must_agree(self.room, work.name)
         seconds = {name: max(found[name, "all"].seconds - found[name, "before"].seconds, 1e-6) for name in self.programs}
         memory = {name: found[name, "all"].megabytes for name in self.programs}
         return seconds, memory
@@ -135,6 +147,22 @@ class Lines:
             other = f"{memory['other']:.1f}" if "other" in memory else "-"
             rate = f"{len(work.lines) / seconds['panad']:,.0f}"
             table.row(f"{work.name}: {work.what}"[:44], rate, *ratios, f"{memory['panad']:.1f}", other)
+
+
+def print_load(options, room):
+    """What it takes to load a dump and to print its tables."""
+    made, asked = workloads.dump(int(ENTRIES * options.scale), random.Random(f"{options.seed} load"))
+    given, nothing, dumped = room / "given", room / "nothing", room / "dump"
+    nothing.write_bytes(b"")
+    given.write_bytes(b"".join(made + asked))
+    run([options.program, "run"], given)
+    dumped.write_bytes(b"".join((room / "any.printed").read_bytes().splitlines(keepends=True)[len(made) :]))
+    programs = {"panad": options.program, **({"other": options.beside} if options.beside else {})}
+    found = best(options.rounds, {name: lambda name=name, it=it: run([it, "load", str(dumped)], nothing, name=name) for name, it in programs.items()})
+    must_agree(room, "load")
+    ours, other = found["panad"], found.get("other")
+    table = Table(f"a dump of {len(made):,} entries", "a second", "of other", "MB", "other's")
+    table.row("load", f"{len(made) / ours.seconds:,.0f}", ratio(ours.seconds, other and other.seconds), f"{ours.megabytes:.1f}", f"{other.megabytes:.1f}" if other else "-")
 
 
 def print_folders(options, room):
@@ -176,6 +204,8 @@ def main(words):
     with tempfile.TemporaryDirectory(dir=ROOMS if ROOMS.is_dir() else None) as room:
         room = Path(room)
         Lines(options, room).print()
+        if not options.only or "load" in options.only:
+            print_load(options, room)
         if not options.only or "folders" in options.only:
             print_folders(options, room)
         if not options.only or "serve" in options.only:

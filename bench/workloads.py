@@ -47,24 +47,34 @@ def registers(count, _):
     return Workload("registers", "first copies", [], [register(it) for it in range(count)])
 
 
+def files_of_two(files):
+    """Two copies of each of so many files, on two devices."""
+    return [it for n in range(files) for it in (register(n), duplicate(2 * n + 1, "usb", f"file-{n}.txt"))]
+
+
+def reports(a, b):
+    """Reports of two copies of a file, any of which is accepted at any time."""
+    return line_of("edit", copy=a), line_of("edit", copy=b), line_of("reconcile", a=a, b=b), line_of("merge", a=a, b=b)
+
+
 def mixed(count, random):
-    """Two copies of each of 200 files, and then reports and questions of them; which copies are newest is all the same."""
+    """Reports and questions of 200 files, of each of which there are two copies; one line in a hundred asks what a device holds."""
     files = 200
-    before = [it for n in range(files) for it in (register(n), duplicate(2 * n + 1, "usb", f"file-{n}.txt"))]
     lines = []
     for _ in range(count):
-        file = random.randrange(files)
-        a, b = 2 * file + 1, 2 * file + 2
-        lines.append(random.choice((
-            line_of("edit", copy=a),
-            line_of("edit", copy=b),
-            line_of("reconcile", a=a, b=b),
-            line_of("merge", a=a, b=b),
-            line_of("pair", a=a, b=b),
-            line_of("board", family=a),
-            line_of("at", device="usb", path=f"file-{file}.txt"),
-        )))
-    return Workload("mixed", "reports and questions of families of two", before, lines)
+        a = 2 * random.randrange(files) + 1
+        asked = random.choice((*reports(a, a + 1), line_of("pair", a=a, b=a + 1), line_of("board", family=a)))
+        lines.append(line_of("holdings", device="usb") if random.random() < 0.01 else asked)
+    return Workload("mixed", "reports and questions of families of two", files_of_two(files), lines)
+
+
+def dump(count, random):
+    """The lines that make a journal of at least so many entries, and then ask for all of them: the answers are its dump."""
+    files = 1000
+    made = files_of_two(files)
+    while len(made) < count:
+        made.append(random.choice(reports(a := 2 * random.randrange(files) + 1, a + 1)))
+    return made, [line_of("journal", **{"from": first}) for first in range(1, len(made) + 1, 100)]
 
 
 def whole_family():

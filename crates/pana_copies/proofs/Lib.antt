@@ -2,6 +2,7 @@ pub mod Sides
 pub mod Kept
 pub mod Counts
 pub mod Paths
+pub mod OnDevice
 pub mod Devices
 pub mod DeviceBytes
 pub mod DeviceText

@@ -1,5 +1,5 @@
 -- Where copies are kept.
-use Rattle.std.specs.Prelude.{◌≡◌, ◌↔◌, ℕ, ◌==◌, ◌<◌, true, List, [], ◌∷◌, length, Option, Some, option_map}
+use Rattle.std.specs.Prelude.{◌≡◌, ◌↔◌, ℕ, ◌==◌, ◌<◌, ◌≤◌, true, List, [], ◌∷◌, length, Option, Some, option_map}
 use Rattle.std.specs.List.{AllByRecursion, IsDistinct, list_any}
 use Rattle.std.specs.Map.{lookup}
 use Rattle.std.specs.Str.{bytes_eq}
@@ -30,6 +30,10 @@ placed place spot = option_map (λ s. record { family = s.family; place = place 
 -- the copy is kept at this path, on some device
 abbrev pub HasPath : Table → List ℕ → ℕ → Type 0
 HasPath table path copy = (place : Place) × (place_of table copy ≡ Some place) × (place.path ≡ path)
+
+-- the copy is kept on this device, and its number isn't below this one
+abbrev pub IsOnDevice : Table → List ℕ → ℕ → ℕ → Type 0
+IsOnDevice table device from copy = (place : Place) × (place_of table copy ≡ Some place) × (place.device ≡ device) × (from ≤ copy)
 
 -- a copy is kept on the device
 abbrev pub HasDevice : Table → List ℕ → Type 0

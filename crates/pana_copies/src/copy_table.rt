@@ -1,10 +1,11 @@
 //! Where the living copies are kept.
 #![tactic(auto, unfolding(crate::specs::Spots::kept))]
 
-ghost use Rattle.std.specs.Prelude.{◌≡◌, ℕ, ◌+◌, ◌<◌, ◌≤◌, ◌==◌, ◌↔◌, true, None, Some, IsSome, IfOk, OnOk, if◌then◌else◌, length, nat_eq, option_map};
+ghost use Rattle.std.specs.Prelude.{◌≡◌, ℕ, ◌+◌, ◌<◌, ◌≤◌, ◌==◌, ◌↔◌, true, None, Some, IsSome, IfOk, OnOk, if◌then◌else◌, length, nat_eq, option_map, option_and_then, slice_get};
 ghost use Rattle.std.specs.List.{IsDistinct, list_any};
 ghost use Rattle.std.specs.Map.{keys_of};
-ghost use Rattle.pana_copies.specs.Spots.{kept, place_of, placed, AreRising, CountsDevices, HasPath};
+ghost use Rattle.pana_copies.specs.Spots.{kept, place_of, placed, AreRising, CountsDevices, HasPath, IsOnDevice};
+ghost use Rattle.pana_copies.specs.inner.Sides.{number_on};
 
 use crate::copy_path::CopyPath;
 use crate::device_counts::{count_down, count_up};
@@ -140,6 +141,61 @@ impl CopyTable {
         ensures found { IfOk result (λ found. (copy : ℕ) → (list_any (λ n. n == copy) found.items ≡ true) ↔ HasPath self.now path.now copy) }
     {
         let mut copies = self.find_with_path(alloc, path)?;
+        copies.sort_unstable();
+        Ok(copies)
+    }
+
+    /// The number of the copy at an index, where it is kept on the device and isn't below this one.
+    fn number_on(&self, device: &DeviceName, from: u64, index: usize) -> Option<u64>
+        ensures { result ≡ option_and_then (number_on device.now from) (slice_get self.now.spots index) }
+    {
+        let place = self.places.get_index(index)?;
+        if place.device != *device {
+            return None;
+        }
+        let (copy, _) = self.families.get_index(index)?;
+        (*copy >= from).then_some(*copy)
+    }
+
+    /// The copies with a number from this one on that are kept on the device, in no order that counts.
+    ///
+    /// # Errors
+    ///
+    /// `AllocError` where an allocation failed.
+    fn find_on_device(
+        &self,
+        alloc: Global,
+        device: &DeviceName,
+        from: u64,
+    ) -> Result<Vec<u64>, AllocError>
+        ensures once { IfOk result (λ found. IsDistinct nat_eq found.items) }
+        ensures found { IfOk result (λ found. (copy : ℕ) → (list_any (λ n. n == copy) found.items ≡ true) ↔ IsOnDevice self.now device.now from copy) }
+    {
+        let mut copies = Vec::new(alloc);
+        for index in 0..self.families.len() {
+            if let Some(copy) = self.number_on(device, from, index) {
+                copies.push(copy)?;
+            }
+        }
+        Ok(copies)
+    }
+
+    /// The copies with a number from this one on that are kept on the device, by rising number. Looks at the device of each copy
+    /// that is kept, and takes O(n log n) for the n that it returns.
+    ///
+    /// # Errors
+    ///
+    /// `AllocError` where an allocation failed.
+    pub fn on_device(
+        &self,
+        alloc: Global,
+        device: &DeviceName,
+        from: u64,
+    ) -> Result<Vec<u64>, AllocError>
+        ensures rising { IfOk result (λ found. AreRising found.items) }
+        ensures found { IfOk result (λ found. (copy : ℕ) → (list_any (λ n. n == copy) found.items ≡ true) ↔ IsOnDevice self.now device.now from copy) }
+    {
+        let mut copies = self.find_on_device(alloc, device, from)?;
         copies.sort_unstable();
         Ok(copies)
     }

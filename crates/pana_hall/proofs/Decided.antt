@@ -25,17 +25,10 @@ use Rattle.pana_hall.specs.inner.Finding.{again_in, best_in, heir_in, holders_in
 use Rattle.pana_hall.proofs.Lists.{each_filter, each_of, each_weaker, filter_filter, found_by, rises_each, rises_filter, rises_map}
 use Rattle.pana_hall.proofs.Moves.{found_number}
 use Rattle.pana_hall.proofs.{Listed.same_by_key, Places.living_found, Ready.at_spots, Ready.place_spots, Runs.rising}
+use Rattle.pana_hall.proofs.Numbered.{LivesAmong, filter_rises, has_filter, numbers_of, passes_is}
 use Rattle.pana_hall.proofs.Related.{any_alike, each_from, each_in, filter_alike, find_alike, find_filter, has_copy, own_found, related, relatives_are, there_is}
 
--- A test by number is that of the copy that lives under it.
-
-pub passes_is : (test : Copy → Bool) (copies : List Copy) (n : ℕ) (x : Copy) → copy_in copies n ≡ Some x → passes test copies n ≡ test x
-passes_is test copies n x at = ap (λ o. unwrap_or (option_map test o) false) at
-
 -- The best of some copies, by their numbers.
-
-abbrev LivesAmong : List Copy → Copy → Type 0
-LivesAmong copies c = copy_in copies c.known.copy ≡ Some c
 
 newer_is : (copies : List Copy) (c d : Copy) → LivesAmong copies c → LivesAmong copies d → is_newer copies c.known.copy d.known.copy ≡ relates_to rels.Newer c d
 newer_is copies c d at there = passes_is _ copies c.known.copy c at ∙ passes_is (relates_to rels.Newer c) copies d.known.copy d there
@@ -306,40 +299,6 @@ decided_none journal table place there sighting accepted spots is_there at is =
 
 -- The copies elsewhere, from the numbers of those with the path.
 
--- a number that is in a list is found there
-number_found : (xs : List ℕ) (n : ℕ) → find (λ x. x == n) xs ≡ then_some (has xs n) n
-number_found [] n = refl
-number_found (x ∷ xs) n = grind (arith, nat_tests, number_found xs n)
-
-has_filter : (p : ℕ → Bool) (xs : List ℕ) (n : ℕ) → has (filter p xs) n ≡ (p n && has xs n)
-has_filter p [] n = grind (arith, nat_tests)
-has_filter p (x ∷ xs) n = grind (arith, nat_tests, has_filter p xs n)
-
--- what is found is a member
-found_member : (p : Copy → Bool) (xs : List Copy) (x : Copy) → find p xs ≡ Some x → In x xs
-found_member p [] x e = absurd (cc)
-found_member p (y ∷ xs) x e =
-    elim (p y) as (λ b. cond b (Some y) (find p xs) ≡ Some x → In x (y ∷ xs)) [
-      | true ↦ λ f. inl (let same : y ≡ x = cc in sym same)
-      | false ↦ λ f. inr (found_member p xs x f)
-    ] e
-
--- a copy that passes the test has the number where the one with the number passes it
-has_passing : (test : Copy → Bool) (copies : List Copy) (n : ℕ) → AllByRecursion (LivesAmong copies) copies → has (map (λ c. c.known.copy) (filter test copies)) n ≡ passes test copies n
-has_passing test copies n each =
-    any_alike (λ m. m == n) (λ c. c.known.copy == n) (λ c. c.known.copy) (filter test copies) (each_of _ (λ c. refl) (filter test copies))
-    ∙ from_both _ _
-    (λ e.
-    let z = any_some (λ c. c.known.copy == n) (filter test copies) e in
-    let k = in_filter test copies z.0 z.1 in
-    let here : LivesAmong copies z.0 = each_in (LivesAmong copies) copies z.0 each k.0 in
-    passes_is test copies n z.0 (subst (λ m. copy_in copies m ≡ Some z.0) (eqb-true z.0.known.copy n z.2) here) ∙ k.1)
-    (λ e. by_copy (copy_in copies n) refl e)
-  where
-    by_copy : (o : Option Copy) → copy_in copies n ≡ o → unwrap_or (option_map test o) false ≡ true → list_any (λ c. c.known.copy == n) (filter test copies) ≡ true
-    by_copy None at e = absurd (cc)
-    by_copy (Some x) at e = any_from (λ c. c.known.copy == n) (filter test copies) x (to_filter test copies x (found_member (λ c. c.known.copy == n) copies x at) e) (eq-eqb x.known.copy n (found_number copies n x at))
-
 and_less : (a b : Bool) → (a ≡ true → b ≡ true) → (a && b) ≡ a
 and_less true b f = f refl
 and_less false b f = refl
@@ -348,22 +307,6 @@ module _ (journal : List Entry) (table : Table) (place : Place) (sum : List ℕ)
     (with_path : (n : ℕ) → (list_any (λ m. m == n) numbers ≡ true) ↔ tables.HasPath table place.path n) where
   abbrev test : ℕ → Bool
   test = passes (is_elsewhere place sum) (living journal)
-
-  -- they are numbers of living copies, and so above 0
-  number_above : (n : ℕ) → In n numbers → 0 < n
-  number_above n i =
-      let path = (with_path n).0 (any_from (λ m. m == n) numbers n i (eq-eqb n n refl)) in
-      let there = at_spots journal table spots n path.0 path.1 in
-      let above = (found_by (λ c. c.known.copy == n) (λ c. 0 < c.known.copy) (living journal) there.0 (rises_each (λ c. c.known.copy) 0 (living journal) (rising 8 journal accepted).0) there.1).1 in
-      subst (λ k. 0 < k) (found_number (living journal) n there.0 there.1) above
-
-  rises_behind : (x : ℕ) (xs : List ℕ) → tables.AreRising (x ∷ xs) → AreRising (λ n. n) x xs
-  rises_behind x [] rises = tt
-  rises_behind x (y ∷ xs) rises = (rises.0.0, rises_behind y xs rises.1)
-
-  rises_above_zero : (xs : List ℕ) → AllByRecursion (λ n. 0 < n) xs → tables.AreRising xs → AreRising (λ n. n) 0 xs
-  rises_above_zero [] above rises = tt
-  rises_above_zero (x ∷ xs) above rises = (above.0, rises_behind x xs rises)
 
   -- each copy elsewhere is among them
   same_path : (x : Copy) → is_elsewhere place sum x ≡ true → x.place.path ≡ place.path
@@ -379,10 +322,5 @@ module _ (journal : List Entry) (table : Table) (place : Place) (sum : List ℕ)
 
   pub elsewhere_is : tables.AreRising numbers → filter test numbers ≡ map (λ c. c.known.copy) (elsewhere (living journal) place sum)
   elsewhere_is rises =
-      let copies = living journal in
-      same_by_key (λ n. n) 0 (filter test numbers) (map (λ c. c.known.copy) (elsewhere copies place sum))
-      (rises_filter (λ n. n) 0 test numbers (rises_above_zero numbers (each_from _ numbers number_above) rises))
-      (rises_map (λ c. c.known.copy) (λ c. c.known.copy) (λ n. n) (λ c. refl) 0 (elsewhere copies place sum) (rises_filter (λ c. c.known.copy) 0 (is_elsewhere place sum) copies (rising 8 journal accepted).0))
-      (λ n. number_found (filter test numbers) n
-      ∙ ap (λ b. then_some b n) (has_filter test numbers n ∙ passing_among n ∙ sym (has_passing (is_elsewhere place sum) copies n (living_found 8 journal accepted)))
-      ∙ sym (number_found (map (λ c. c.known.copy) (elsewhere copies place sum)) n))
+      numbers_of journal accepted (is_elsewhere place sum) (filter test numbers) (filter_rises test numbers rises)
+      (λ n. has_filter test numbers n ∙ passing_among n)

@@ -19,6 +19,8 @@ pub mod Shown
 pub mod Related
 pub mod Advised
 pub mod Stood
+pub mod Numbered
+pub mod Held
 pub mod Decided
 pub mod Longer
 pub mod Runs

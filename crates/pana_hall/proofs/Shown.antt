@@ -2,7 +2,7 @@
 use Rattle.pana_hall.proofs.Words.{◌≡◌, ℕ, Bool, List, [], ◌∷◌, map, filter, Option, Some, IsSome, is_some, option_map, unwrap_or, ◌+◌, ◌≤◌, cond, nat_le, ◌++◌, None, option_and_then, AllByRecursion}
 use Rattle.pana_hall.proofs.Words.{refl, sym, ap, ◌∙◌, subst, arith, map-append, Place, Table, kept, Entry, CopyCounts, Known, BoardRow, Copy, copy_in, living, all_known, is_of, sets_of, family_row}
 use Rattle.pana_hall.proofs.Words.{holding, holdings, IsAccepted, sets_at, spot_of, AreSpots, placed_row, option_to_list, bytes_eq, Holding, AreRising, filter-append, map-map, nat_tests, row_of_sets}
-use Rattle.pana_hall.proofs.Words.{true, holding_from, holding_in}
+use Rattle.pana_hall.proofs.Words.{true}
 use Rattle.pana_rel.specs.Board.{counts_of, is_split, newest_of}
 use Rattle.pana_family.specs.Board as board
 use Rattle.pana_family.specs.Table as table
@@ -65,57 +65,20 @@ unfolding board_of
 board_is journal family rows new split copies accepted spots rows_are new_are split_is_it =
     rw (rows_are, rows_placed journal family copies accepted spots, new_are, newest_is journal family accepted, split_is_it, split_is journal family accepted) refl
 
--- The holdings of a device, number by number.
+-- The copies up to a number.
 
--- the copies up to a number, and the holdings among them
 abbrev pub upto : ℕ → List Copy → List Copy
 upto n copies = filter (λ copy. nat_le copy.known.copy n) copies
-
-abbrev pub holdings_to : List Copy → List ℕ → ℕ → List Holding
-holdings_to copies device n = holdings (upto n copies) device
 
 pub upto_none : (low n : ℕ) (copies : List Copy) → n ≤ low → AreRising (λ c. c.known.copy) low copies → upto n copies ≡ []
 upto_none low n [] below rises = refl
 upto_none low n (c ∷ copies) below rises = grind (arith, nat_tests, upto_none c.known.copy n copies (omega arith) rises.1)
-
-pub holdings_none : (low n : ℕ) (copies : List Copy) (device : List ℕ) → n ≤ low → AreRising (λ c. c.known.copy) low copies → holdings_to copies device n ≡ []
-holdings_none low n copies device below rises = ap (λ l. holdings l device) (upto_none low n copies below rises)
 
 -- one number more adds its copy
 pub upto_more : (low n : ℕ) (copies : List Copy) → AreRising (λ c. c.known.copy) low copies → upto (n + 1) copies ≡ upto n copies ++ option_to_list (copy_in copies (n + 1))
 upto_more low n [] rises = refl
 upto_more low n (c ∷ copies) rises = grind (arith, nat_tests, upto_more c.known.copy n copies rises.1, upto_none, none_under)
 
-holdings_push : (copies : List Copy) (device : List ℕ) (o : Option Copy)
-    → holdings (copies ++ option_to_list o) device ≡ holdings copies device ++ option_to_list (option_and_then (λ copy. cond (bytes_eq copy.place.device device) (Some (holding copy)) None) o)
-holdings_push copies device o = grind (arith, nat_tests, filter-append, map-append)
-
-pub holdings_more : (low n : ℕ) (copies : List Copy) (device : List ℕ) → AreRising (λ c. c.known.copy) low copies
-    → holdings_to copies device (n + 1) ≡ holdings_to copies device n ++ option_to_list (holding_in copies device (n + 1))
-holdings_more low n copies device rises = grind (arith, nat_tests, upto_more, holdings_push)
-
-pub holdings_all : (copies : List Copy) (device : List ℕ) (last : ℕ) → AllByRecursion (λ c. c.known.copy ≤ last) copies → holdings_to copies device last ≡ holdings copies device
-holdings_all copies device last within = grind (arith, nat_tests, filter_all, each_weaker)
-
--- The same from a number on.
-
-abbrev pub holdings_from_to : List Copy → List ℕ → ℕ → ℕ → List Holding
-holdings_from_to copies device from n = filter (λ h. nat_le from h.copy) (holdings_to copies device n)
-
-pub from_none : (low n : ℕ) (copies : List Copy) (device : List ℕ) (from : ℕ) → n ≤ low → AreRising (λ c. c.known.copy) low copies → holdings_from_to copies device from n ≡ []
-from_none low n copies device from below rises = ap (filter (λ h. nat_le from h.copy)) (holdings_none low n copies device below rises)
-
-chosen_one : (copies : List Copy) (device : List ℕ) (from n : ℕ) → filter (λ h. nat_le from h.copy) (option_to_list (holding_in copies device n)) ≡ option_to_list (holding_from copies device from n)
-chosen_one copies device from n = grind (arith, nat_tests, found_number)
-
-pub from_more : (low n : ℕ) (copies : List Copy) (device : List ℕ) (from : ℕ) → AreRising (λ c. c.known.copy) low copies
-    → holdings_from_to copies device from (n + 1) ≡ holdings_from_to copies device from n ++ option_to_list (holding_from copies device from (n + 1))
-from_more low n copies device from rises =
-    ap (filter (λ h. nat_le from h.copy)) (holdings_more low n copies device rises) ∙ filter-append _ (holdings_to copies device n) (option_to_list (holding_in copies device (n + 1)))
-    ∙ ap (λ l. holdings_from_to copies device from n ++ l) (chosen_one copies device from (n + 1))
-
-pub from_all : (copies : List Copy) (device : List ℕ) (from last : ℕ) → AllByRecursion (λ c. c.known.copy ≤ last) copies → holdings_from_to copies device from last ≡ filter (λ h. nat_le from h.copy) (holdings copies device)
-from_all copies device from last within = ap (filter (λ h. nat_le from h.copy)) (holdings_all copies device last within)
-
+-- all holdings are from 0 on
 pub from_zero : (list : List Holding) → filter (λ h. nat_le 0 h.copy) list ≡ list
 from_zero list = filter_all (λ h. nat_le 0 h.copy) list (each_of (λ h. nat_le 0 h.copy ≡ true) (λ h. grind (arith, nat_tests)) list)

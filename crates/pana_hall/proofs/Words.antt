@@ -53,7 +53,7 @@ pub use Rattle.pana_hall.specs.inner.Kept.{undone_of}
 pub use Rattle.pana_hall.specs.inner.Contents.{AreContents, all_written, content_at, entry_of, first_said, said_in, say, second_said}
 pub use Rattle.pana_hall.specs.inner.Listed.{all_listed, listed}
 pub use Rattle.pana_hall.specs.inner.Next.{AreSayings, IsStep, IsStepOf, Takes}
-pub use Rattle.pana_hall.specs.inner.Rows.{holding_from, holding_in, placed_row}
+pub use Rattle.pana_hall.specs.inner.Rows.{holding_in, placed_row}
 pub use Rattle.pana_hall.specs.inner.Spots.{CanPlace, CanUndo, IsFree, IsFreeFor, IsThere, mover, other_there, put, spot_after, spot_in, spot_of, spot_to, undone_spot}
 pub use Rattle.pana_hall.specs.inner.Undo.{CanGoBack, Earlier, IsPreparedIn, KeptRows, RoomyFamily, Undone, confirmed, earlier, earlier_of, ends_in, history, kept_rows, last_before, last_place, later_than, new_kept, reported_kept, undone}
 pub use Rattle.pana_hall.specs.inner.Undo.{withdrawn}

@@ -1,12 +1,11 @@
 //! The answers to queries, where nothing stands against them.
-ghost use Rattle.std.specs.Prelude.{◌≡◌, true, None, IsSome, IfOk, IfErr, List, filter, map, nat_le};
+ghost use Rattle.std.specs.Prelude.{◌≡◌, true, None, IsSome, IfOk, IfErr, List, filter_map, map};
 ghost use Rattle.std.specs.{List.AllByRecursion, Str.bytes_eq};
 ghost use Rattle.pana_copies.specs.Spots.{kept};
 ghost use Rattle.pana_family.specs.{Stands.StandsFor, Table.Known};
-ghost use Rattle.pana_hall.specs.{Board.board_of, Stamps.AreStampsOf, Living.living, inner.Rows.holding_in, inner.Rows.placed_row};
+ghost use Rattle.pana_hall.specs.{Board.board_of, Stamps.AreStampsOf, Living.living, inner.Rows.holding_in, inner.Rows.sum_in, inner.Rows.placed_row};
 ghost use Rattle.pana_hall.specs.{Refusal.query_refusal, Permit.Answers, Permit.IsShortage, inner.State.IsHeld, inner.Listed.listed};
 ghost use Rattle.pana_hall.specs.Queries.{counts_of, family_rows, holdings, holdings_from, pair_of, row_of_sets};
-ghost use Rattle.pana_hall.specs.inner.Rows.{holding_from, sum_in};
 
 use crate::listed_family::ListedFamily;
 use crate::state::State;
@@ -153,37 +152,19 @@ impl State {
         }
     }
 
-    /// The same, where the number isn't below this one.
-    fn holding_from(
+    /// Those of the living copies with these numbers that are on the device.
+    fn holdings_of(
         &self,
         alloc: Global,
         device: &DeviceName,
-        from: u64,
-        number: u64,
-    ) -> Result<Option<Holding>, AllocError>
-        requires kept { IsHeld self.now }
-        ensures { IfOk result (λ made. made ≡ holding_from (living self.now.journal.entries) device.now from number) }
-    {
-        if from <= number {
-            self.holding_at(alloc, device, number)
-        } else {
-            Ok(None)
-        }
-    }
-
-    /// The living copies on a device with a number from this one on, by rising number.
-    fn holdings(
-        &self,
-        alloc: Global,
-        device: &DeviceName,
-        from: u64,
+        numbers: &[u64],
     ) -> Result<Vec<Holding>, AllocError>
         requires kept { IsHeld self.now }
-        ensures { IfOk result (λ made. made.items ≡ filter (λ holding. nat_le from holding.copy) (holdings (living self.now.journal.entries) device.now)) }
+        ensures { IfOk result (λ made. made.items ≡ filter_map (holding_in (living self.now.journal.entries) device.now) numbers.now) }
     {
-        let mut made = Vec::new(alloc);
-        for earlier in 0..self.journal.length() {
-            if let Some(holding) = self.holding_from(alloc, device, from, earlier + 1)? {
+        let mut made = Vec::with_capacity(alloc, numbers.len())?;
+        for number in numbers {
+            if let Some(holding) = self.holding_at(alloc, device, *number)? {
                 made.push(holding)?;
             }
         }
@@ -202,11 +183,14 @@ impl State {
         ensures { IfOk result (λ made. made.items ≡ holdings_from from (holdings (living self.now.journal.entries) device.now)) }
     {
         match from {
-            None => self.holdings(alloc, device, 0),
+            None => {
+                let numbers = self.copies.on_device(alloc, device, 0)?;
+                self.holdings_of(alloc, device, numbers.as_slice())
+            }
             Some(from) => {
-                let mut made = self.holdings(alloc, device, from)?;
-                made.truncate(MOST_HOLDINGS);
-                Ok(made)
+                let mut numbers = self.copies.on_device(alloc, device, from)?;
+                numbers.truncate(MOST_HOLDINGS);
+                self.holdings_of(alloc, device, numbers.as_slice())
             }
         }
     }

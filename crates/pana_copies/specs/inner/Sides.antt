@@ -1,7 +1,8 @@
 -- Two lists side by side as one list of spots.
-use Rattle.std.specs.Prelude.{◌≡◌, ℕ, nat_eq, List, [], ◌∷◌, length}
+use Rattle.std.specs.Prelude.{◌≡◌, ℕ, nat_eq, nat_le, ◌&&◌, List, [], ◌∷◌, length, Option, Some, None, if◌then◌else◌}
 use Rattle.std.specs.List.{IsDistinct}
 use Rattle.std.specs.Map.{keys_of}
+use Rattle.std.specs.Str.{bytes_eq}
 use Rattle.pana_copies.specs.declared.place.Place.{Place}
 use Rattle.pana_copies.specs.Places.{same_place}
 use Rattle.pana_copies.specs.Spots.{Spot}
@@ -17,3 +18,7 @@ pub record IsEven (families : List (ℕ × ℕ)) (places : List Place) : Type 0 
   pub long : length places ≡ length families
   pub copies_apart : IsDistinct nat_eq (keys_of families)
   pub places_apart : IsDistinct same_place places
+
+-- the number of a copy, where it is kept on the device and isn't below this one
+abbrev pub number_on : List ℕ → ℕ → ℕ × Spot → Option ℕ
+number_on device from x = if bytes_eq x.1.place.device device && nat_le from x.0 then Some x.0 else None

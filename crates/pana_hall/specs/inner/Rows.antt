@@ -1,5 +1,5 @@
 -- Rows of answers, as they are read off a family and the table of copies.
-use Rattle.std.specs.Prelude.{ℕ, nat_le, List, [], Option, Some, None, option_and_then, unwrap_or, if◌then◌else◌}
+use Rattle.std.specs.Prelude.{ℕ, List, [], Option, Some, None, option_and_then, unwrap_or, if◌then◌else◌}
 use Rattle.std.specs.Str.{bytes_eq}
 use Rattle.pana_copies.specs.declared.place.Place.{Place}
 use Rattle.pana_copies.specs.Spots.{Table, place_of}
@@ -24,7 +24,3 @@ sum_in copies number = option_and_then sum_of (copy_in copies number)
 -- the living copy with a number as a holding, if it is on the device
 abbrev pub holding_in : List Copy → List ℕ → ℕ → Option Holding
 holding_in copies device number = option_and_then (λ copy. if bytes_eq copy.place.device device then Some (holding copy) else None) (copy_in copies number)
-
--- the same, where the number isn't below this one
-abbrev pub holding_from : List Copy → List ℕ → ℕ → ℕ → Option Holding
-holding_from copies device from number = if nat_le from number then holding_in copies device number else None
