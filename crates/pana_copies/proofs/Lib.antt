@@ -3,6 +3,7 @@ pub mod Kept
 pub mod Counts
 pub mod Paths
 pub mod OnDevice
+pub mod Marks
 pub mod Devices
 pub mod DeviceBytes
 pub mod DeviceText

@@ -1,15 +1,16 @@
 -- The copies that are kept on one device.
-use Rattle.std.proofs.Common.{◌≡◌, ℕ, zero, suc, ◌+◌, ◌≤◌, ◌<◌, Bool, true, false, cond, ◌&&◌, ◌||◌, nat_eq, nat_le, ◌==◌, List, [], ◌∷◌, ◌++◌, length, take, slice_get, Option, Some, None, option_and_then, option_map, filter_map, refl, sym, ap, ◌∙◌, subst, arith, ◌↔◌, eqb-true}
+use Rattle.std.proofs.Common.{◌≡◌, ◌≢◌, ℕ, zero, suc, ◌+◌, ◌≤◌, ◌<◌, Bool, true, false, cond, ◌&&◌, ◌||◌, nat_eq, nat_le, ◌==◌, List, [], ◌∷◌, ◌++◌, length, take, slice_get, Option, Some, None, option_and_then, option_map, filter_map, refl, sym, ap, ◌∙◌, subst, arith, ◌↔◌, eqb-true}
 use Rattle.std.specs.Cmp.{nat_eq_equiv}
 use Rattle.std.specs.List.{AllByRecursion, IsDistinct, list_any}
 use Rattle.std.specs.Map.{keys_of, lookup}
 use Rattle.std.specs.Option.{option_to_list}
 use Rattle.std.specs.Str.{bytes_eq}
-use Rattle.std.proofs.lemmas.Bool.{and_parts, and_from, le-leb, leb-true}
+use Rattle.std.proofs.lemmas.Bool.{and_parts, and_from, false_from_ne_true, le-leb, leb-true}
 use Rattle.std.proofs.lemmas.Map.Keys.{IsDistinct-head, IsDistinct-tail}
 use Rattle.std.proofs.lemmas.Slice.Eq.{bytes_eq-Decides}
 use Rattle.pana_copies.specs.declared.place.Place.{Place}
 use Rattle.pana_copies.specs.Spots.{Spot}
+use Rattle.pana_copies.specs.inner.Marks.{mark_of}
 use Rattle.pana_copies.specs.inner.Sides.{spots_of, IsEven, number_on}
 use Rattle.pana_copies.proofs.Kept.{apart_numbers, entry_at, spot_from}
 use Rattle.pana_copies.proofs.Sides.{spotted, slice_get-spots}
@@ -25,6 +26,12 @@ none_behind (e ∷ es) (p ∷ ps) (suc i) none = none_behind es ps i none
 pub beside : (es : List (ℕ × ℕ)) (ps : List Place) → IsEven es ps → (i : ℕ) (p : Place) → slice_get ps i ≡ Some p
     → (e : ℕ × ℕ) × (slice_get es i ≡ Some e) × (slice_get (spots_of es ps) i ≡ Some (spotted e p))
 beside es ps even i p at = let e = entry_at es ps even.long i p at in (e.0, e.1, slice_get-spots es ps i e.0 p e.1 at)
+
+-- a copy with another mark isn't on the device
+pub other_device : (device : List ℕ) (from : ℕ) (e : ℕ × ℕ) (p : Place) → mark_of p.device ≢ mark_of device → number_on device from (spotted e p) ≡ None
+other_device device from e p other =
+    let apart : bytes_eq p.device device ≡ false = false_from_ne_true (bytes_eq p.device device) (λ same. other (ap mark_of ((bytes_eq-Decides p.device device).0 same))) in
+    rw (apart) refl
 
 module _ (device : List ℕ) (from : ℕ) where
   numbers_suc : (spots : List (ℕ × Spot)) (i : ℕ)

@@ -2,5 +2,6 @@
 pub mod Counts
 pub mod DeviceBytes
 pub mod Indexes
+pub mod Marks
 pub mod Sides
 pub mod SumBytes

@@ -1,11 +1,11 @@
 //! Where the living copies are kept.
 #![tactic(auto, unfolding(crate::specs::Spots::kept))]
 
-ghost use Rattle.std.specs.Prelude.{◌≡◌, ℕ, ◌+◌, ◌<◌, ◌≤◌, ◌==◌, ◌↔◌, true, None, Some, IsSome, IfOk, OnOk, if◌then◌else◌, length, nat_eq, option_map, option_and_then, slice_get};
+ghost use Rattle.std.specs.Prelude.{◌≡◌, ℕ, ◌+◌, ◌<◌, ◌≤◌, ◌==◌, ◌↔◌, true, None, Some, IsSome, IfSome, IfOk, OnOk, if◌then◌else◌, length, nat_eq, option_map, option_and_then, slice_get};
 ghost use Rattle.std.specs.List.{IsDistinct, list_any};
 ghost use Rattle.std.specs.Map.{keys_of};
 ghost use Rattle.pana_copies.specs.Spots.{kept, place_of, placed, AreRising, CountsDevices, HasPath, IsOnDevice};
-ghost use Rattle.pana_copies.specs.inner.Sides.{number_on};
+ghost use Rattle.pana_copies.specs.{inner.Marks.mark_of, inner.Sides.number_on};
 
 use crate::copy_path::CopyPath;
 use crate::device_counts::{count_down, count_up};
@@ -22,6 +22,8 @@ pub struct CopyTable {
     // The place of the copy at an index is at the same index of the other list, so it is kept once.
     families: IndexMap<u64, u64>,
     places: IndexSet<Place>,
+    // A byte of the name of the device, at the index of each place: by these the copies of one device are found.
+    marks: Vec<u8>,
     // Each device that has a copy, with how many it has.
     devices: IndexMap<DeviceName, u64>,
 }
@@ -31,24 +33,37 @@ impl Drop for CopyTable {
         let CopyTable {
             families: _,
             places: _,
+            marks: _,
             devices: _,
         } = self;
     }
 }
 
 impl Model for CopyTable {
-    ghost use Rattle.std.specs.Prelude.{min};
+    ghost use Rattle.std.specs.Prelude.{◌-◌, min, vec_capacity, vec_len};
     ghost use Rattle.indexmap.specs.IndexMap.{spare};
     ghost use Rattle.indexmap.specs.IndexSet.{spare as spare_places};
     ghost use Rattle.pana_copies.specs.Spots.{Table};
     ghost use Rattle.pana_copies.specs.inner.Sides.{spots_of};
     ghost use Rattle.pana_copies.specs.inner.Indexes.{IsIndexed};
+    ghost use Rattle.pana_copies.specs.inner.Marks.{AreMarks};
 
     ghost Value = { Table };
 
-    ghost view = { λ a. record { spots = spots_of a.families.entries a.places.keys; room = min (spare a.devices) (min (spare a.families) (spare_places a.places)) } };
+    ghost view = { λ a. record { spots = spots_of a.families.entries a.places.keys; room = min (vec_capacity a.marks - vec_len a.marks) (min (spare a.devices) (min (spare a.families) (spare_places a.places))) } };
 
-    ghost invariant = { λ a. IsIndexed a.families.entries a.places.keys a.devices.entries };
+    ghost invariant = { λ a. IsIndexed a.families.entries a.places.keys a.devices.entries × AreMarks a.marks.items a.places.keys };
+}
+
+/// Whether the mark at an index is this one.
+#[inline(always)]
+fn is_marked(marks: &[u8], index: usize, mark: u8) -> bool
+    ensures { IfSome (slice_get marks.now index) (λ there. result ≡ (there == mark)) }
+{
+    match marks.get(index) {
+        Some(there) => *there == mark,
+        None => false,
+    }
 }
 
 /// The family of a copy, and the place where it is kept.
@@ -66,6 +81,7 @@ impl CopyTable {
         CopyTable {
             families: IndexMap::new(alloc),
             places: IndexSet::new(alloc),
+            marks: Vec::new(alloc),
             devices: IndexMap::new(alloc),
         }
     }
@@ -146,10 +162,15 @@ impl CopyTable {
     }
 
     /// The number of the copy at an index, where it is kept on the device and isn't below this one.
-    fn number_on(&self, device: &DeviceName, from: u64, index: usize) -> Option<u64>
+    #[inline(always)]
+    fn number_on(&self, device: &DeviceName, mark: u8, from: u64, index: usize) -> Option<u64>
+        requires { mark ≡ mark_of device.now }
         ensures { result ≡ option_and_then (number_on device.now from) (slice_get self.now.spots index) }
     {
         let place = self.places.get_index(index)?;
+        if !is_marked(&self.marks, index, mark) {
+            return None;
+        }
         if place.device != *device {
             return None;
         }
@@ -171,17 +192,18 @@ impl CopyTable {
         ensures once { IfOk result (λ found. IsDistinct nat_eq found.items) }
         ensures found { IfOk result (λ found. (copy : ℕ) → (list_any (λ n. n == copy) found.items ≡ true) ↔ IsOnDevice self.now device.now from copy) }
     {
+        let mark = device.mark();
         let mut copies = Vec::new(alloc);
         for index in 0..self.families.len() {
-            if let Some(copy) = self.number_on(device, from, index) {
+            if let Some(copy) = self.number_on(device, mark, from, index) {
                 copies.push(copy)?;
             }
         }
         Ok(copies)
     }
 
-    /// The copies with a number from this one on that are kept on the device, by rising number. Looks at the device of each copy
-    /// that is kept, and takes O(n log n) for the n that it returns.
+    /// The copies with a number from this one on that are kept on the device, by rising number. Looks at a byte of each copy that
+    /// is kept, and takes O(n log n) for the n that it returns.
     ///
     /// # Errors
     ///
@@ -211,6 +233,7 @@ impl CopyTable {
     {
         self.families.reserve(1)?;
         self.places.reserve(1)?;
+        self.marks.reserve(1)?;
         self.devices.reserve(1)
     }
 
@@ -225,6 +248,7 @@ impl CopyTable {
         // A device has no more copies than there are places, so one more can be counted.
         prove!(self.places.len() < usize::MAX);
         count_up(&mut self.devices, place.device.copy_of());
+        self.marks.push_reserved(place.device.mark());
         self.families.insert(copy, family).unwrap();
         self.places.insert(place).unwrap();
     }
@@ -255,6 +279,7 @@ impl CopyTable {
         let index = self.families.get_index_of(&copy).unwrap();
         self.families.swap_remove_index(index).unwrap();
         let place = self.places.swap_remove_index(index).unwrap();
+        self.marks.swap_remove(index);
         count_down(&mut self.devices, &place.device);
         place
     }

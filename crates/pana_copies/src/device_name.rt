@@ -1,6 +1,6 @@
 ghost use Rattle.std.specs.Prelude.{◌≡◌, ◌↔◌, true, false, length, IfOk, IfErr, IsErrOf};
 ghost use Rattle.std.specs.List.{list_all};
-ghost use Rattle.pana_copies.specs.Names.{is_device, is_device_byte, before_zeros};
+ghost use Rattle.pana_copies.specs.{Names.is_device, Names.is_device_byte, Names.before_zeros, inner.Marks.mark_of};
 
 use crate::name_fault::NameFault;
 use std::hash::{Hash, Hasher};
@@ -98,6 +98,19 @@ impl DeviceName {
     {
         // to check it once more took an eighth of a page of entries
         unsafe { str::from_utf8_unchecked(self.as_bytes()) }
+    }
+
+    /// A byte in which most other names differ. Takes no memory.
+    #[tactic(auto, unfolding(crate::specs::inner::Marks::mark_of))]
+    pub(crate) fn mark(&self) -> u8
+        ensures { result ≡ mark_of self.now }
+    {
+        let bytes = self.as_bytes();
+        let mut mark = 0u8;
+        for byte in bytes {
+            mark = mark.wrapping_mul(31).wrapping_add(*byte);
+        }
+        mark
     }
 
     /// The same name once more. Takes no memory.

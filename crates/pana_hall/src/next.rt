@@ -24,3 +24,11 @@ pub struct Next {
     pub sayings: Sayings,
     pub step: Step,
 }
+
+/// What an entry that is to be the next changes: all of it but the entry.
+#[derive(Drop)]
+pub struct Effects {
+    pub position: usize,
+    pub sayings: Sayings,
+    pub step: Step,
+}

@@ -175,10 +175,8 @@ impl State {
         ensures journal { self.new.journal.entries ≡ journal_after self.old.journal.entries by.now (calls.Report report) result }
         ensures kept { IsHeld self.new }
     {
-        match self.prepare(alloc, by, report) {
-            Ok(next) => Reply::Done {
-                entry: self.commit(next),
-            },
+        match self.record(alloc, by, report) {
+            Ok(entry) => Reply::Done { entry },
             Err(cause) => Reply::Refused(cause),
         }
     }

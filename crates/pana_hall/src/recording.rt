@@ -1,6 +1,6 @@
 //! What an accepted report makes of a journal, and of what is kept of it: the memory for it first, and then the entry, which can't
 //! fail.
-ghost use Rattle.std.specs.Prelude.{◌≡◌, ℕ, ◌+◌, ◌<◌, [], ◌∷◌, ◌++◌, List, length, ◌==◌, if◌then◌else◌, Some, None, false, IfOk, IfErr, OnOk, vec_len, vec_capacity};
+ghost use Rattle.std.specs.Prelude.{◌≡◌, ℕ, ◌+◌, ◌<◌, [], ◌∷◌, ◌++◌, List, length, ◌==◌, if◌then◌else◌, Some, None, false, IfOk, IfErr, OnErr, OnOk, vec_len, vec_capacity};
 ghost use Rattle.pana_calls.specs.declared.cause.Cause.TheVariants as causes;
 ghost use Rattle.pana_copies.specs.Spots.{kept};
 ghost use Rattle.pana_hall.specs.{inner.Spots.IsFree, inner.Undo.new_kept, inner.Listed.IsGrown, inner.Listed.all_listed, inner.Listed.listed};
@@ -8,14 +8,14 @@ ghost use Rattle.pana_hall.specs.{inner.State.IsHeld, inner.State.IsRefused, inn
 ghost use Rattle.pana_hall.specs.{Refusal.report_refusal};
 ghost use Rattle.pana_hall.specs.inner.Kept.{next_entry, AreSpots, IsReady, IsReadyAt, families_of, family_of, position_for};
 ghost use Rattle.pana_hall.specs.inner.Contents.{AreContents};
-ghost use Rattle.pana_hall.specs.inner.Next.{HasRoom, HasRoomFor, IsNext, IsSecond, IsStep, IsStepAfter, IsStepOf, Takes, TakesAfter};
+ghost use Rattle.pana_hall.specs.inner.Next.{HasRoom, HasRoomFor, IsNext, IsSecond, IsStep, IsStepAfter, IsStepOf, Takes, TakesAfter, next_of};
 ghost use Rattle.pana_hall.specs.declared.{next.Next.Next as OneNext, next.Step.Step as OneStep};
 ghost use Rattle.pana_journal.specs.declared.entry.Entry.{Entry as OfJournal};
 
 use crate::changing::{apply_change, before, prepare_change, withdraw};
 use crate::contents::Contents;
 use crate::listed_family::ListedFamily;
-use crate::next::{Next, Step};
+use crate::next::{Effects, Next, Step};
 use crate::state::State;
 use pana_calls::Cause;
 use pana_copies::{CopyTable, DeviceName, Place};
@@ -249,61 +249,52 @@ impl State {
 
     /// Takes the memory for a report that nothing stands against, beside the room that was made by `reserve`. Fails only where
     /// memory runs out.
-    fn prepare_reserved(
+    fn effects_reserved(
         &mut self,
         alloc: Global,
         by: &DeviceName,
-        report: Report,
-    ) -> Result<Next, Cause>
+        report: &Report,
+    ) -> Result<Effects, Cause>
         requires kept { IsHeld self.old }
-        requires free { report_refusal 8 self.old.journal.entries (living self.old.journal.entries) by.now report ≡ None }
+        requires free { report_refusal 8 self.old.journal.entries (living self.old.journal.entries) by.now report.now ≡ None }
         requires room { HasRoom 1 self.old }
         requires copies { 0 < self.old.copies.room }
         ensures journal { self.new.journal.entries ≡ self.old.journal.entries }
         ensures kept { IsHeld self.new }
-        ensures entry { IfOk result (λ next. next.entry ≡ next_entry self.old.journal.entries by.now report) }
-        ensures next { IfOk result (IsNext self.new) }
+        ensures next { IfOk result (λ effects. IsNext self.new (next_of self.old.journal.entries by.now report.now effects)) }
         ensures fault { IfErr result (λ cause. cause ≡ causes.OutOfMemory) }
     {
-        let position = self.position_of_next(by, &report);
-        match self.take_step(alloc, by, &report, position) {
-            Ok(step) => {
-                let sayings = self.sayings(by, &report);
-                Ok(Next {
-                    entry: entry_of(self.journal.length() + 1, by, report),
-                    position,
-                    sayings,
-                    step,
-                })
-            }
-            Err(_) => {
-                drop(report);
-                Err(Cause::OutOfMemory)
-            }
+        let position = self.position_of_next(by, report);
+        match self.take_step(alloc, by, report, position) {
+            Ok(step) => Ok(Effects {
+                position,
+                sayings: self.sayings(by, report),
+                step,
+            }),
+            Err(_) => Err(Cause::OutOfMemory),
         }
     }
 
-    /// Takes the memory for a report that nothing stands against. Fails only where memory runs out.
-    fn prepare_free(
+    /// What a device's report changes as the next entry, beside the journal, if nothing stands against it. It has all memory that
+    /// this takes, and the journal stays as it is.
+    fn effects_of(
         &mut self,
         alloc: Global,
         by: &DeviceName,
-        report: Report,
-    ) -> Result<Next, Cause>
-        requires kept { IsHeld self.old }
-        requires free { report_refusal 8 self.old.journal.entries (living self.old.journal.entries) by.now report ≡ None }
+        report: &Report,
+    ) -> Result<Effects, Cause>
+        requires { IsHeld self.old }
         ensures journal { self.new.journal.entries ≡ self.old.journal.entries }
         ensures kept { IsHeld self.new }
-        ensures entry { IfOk result (λ next. next.entry ≡ next_entry self.old.journal.entries by.now report) }
-        ensures next { IfOk result (IsNext self.new) }
-        ensures fault { IfErr result (λ cause. cause ≡ causes.OutOfMemory) }
+        ensures refused { IfErr result (IsRefused self.old.journal.entries by.now report.now) }
+        ensures next { IfOk result (λ effects. IsNext self.new (next_of self.old.journal.entries by.now report.now effects)) }
     {
+        if let Some(cause) = self.report_refusal(by, report) {
+            return Err(cause);
+        }
         match self.reserve(1) {
-            Ok(()) => self.prepare_reserved(alloc, by, report),
-            Err(_) => {
-                drop(report);
-                Err(Cause::OutOfMemory)
-            }
+            Ok(()) => self.effects_reserved(alloc, by, report),
+            Err(_) => Err(Cause::OutOfMemory),
         }
     }
 
@@ -316,11 +307,50 @@ impl State {
         ensures entry { IfOk result (λ next. next.entry ≡ next_entry self.old.journal.entries by.now report) }
         ensures next { IfOk result (IsNext self.new) }
     {
-        if let Some(cause) = self.report_refusal(by, &report) {
-            drop(report);
-            return Err(cause);
+        match self.effects_of(alloc, by, &report) {
+            Ok(Effects {
+                position,
+                sayings,
+                step,
+            }) => Ok(Next {
+                entry: entry_of(self.journal.length() + 1, by, report),
+                position,
+                sayings,
+                step,
+            }),
+            Err(cause) => {
+                drop(report);
+                Err(cause)
+            }
         }
-        self.prepare_free(alloc, by, report)
+    }
+
+    /// Makes a device's report the next entry of the journal, with what it changes, and keeps all of the journal that is kept.
+    /// Takes no memory.
+    fn make(&mut self, by: DeviceName, report: Report, effects: Effects) -> u64
+        requires kept { IsHeld self.old }
+        requires next { IsNext self.old (next_of self.old.journal.entries by report effects) }
+        ensures records { Records self.old.journal.entries by report result self.new }
+        ensures behind { (second : OneNext) → IsSecond self.old (next_of self.old.journal.entries by report effects) second → IsNext self.new second }
+    {
+        let Effects {
+            position,
+            sayings,
+            step,
+        } = effects;
+        let list = &mut self.families.list;
+        make_step(
+            &self.journal,
+            &by,
+            list,
+            position,
+            &mut self.copies,
+            &report,
+            step,
+        );
+        self.contents.push(sayings);
+        self.families.positions.push_reserved(position);
+        self.journal.append(by, report)
     }
 
     /// Makes a report that was prepared the next entry of the journal, and keeps all of the journal that is kept. Takes no memory.
@@ -336,19 +366,31 @@ impl State {
             sayings,
             step,
         } = next;
-        let list = &mut self.families.list;
-        make_step(
-            &self.journal,
-            &by,
-            list,
+        let effects = Effects {
             position,
-            &mut self.copies,
-            &report,
+            sayings,
             step,
-        );
-        self.contents.push(sayings);
-        self.families.positions.push_reserved(position);
-        self.journal.append(by, report)
+        };
+        self.make(by, report, effects)
+    }
+
+    /// Makes a device's report the next entry of the journal, if nothing stands against it, and returns its number: `prepare` and
+    /// `commit`, and no entry is made on the way.
+    pub fn record(&mut self, alloc: Global, by: &DeviceName, report: Report) -> Result<u64, Cause>
+        requires { IsHeld self.old }
+        ensures records { IfOk result (λ entry. Records self.old.journal.entries by.now report entry self.new) }
+        ensures free { OnOk result (report_refusal 8 self.old.journal.entries (living self.old.journal.entries) by.now report ≡ None) }
+        ensures refused { IfErr result (IsRefused self.old.journal.entries by.now report) }
+        ensures same { OnErr result (self.new.journal.entries ≡ self.old.journal.entries) }
+        ensures kept { IsHeld self.new }
+    {
+        match self.effects_of(alloc, by, &report) {
+            Ok(effects) => Ok(self.make(by.copy_of(), report, effects)),
+            Err(cause) => {
+                drop(report);
+                Err(cause)
+            }
+        }
     }
 }
 

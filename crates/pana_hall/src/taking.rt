@@ -58,11 +58,8 @@ impl Hall {
             });
         }
         let Entry { by, report, .. } = entry;
-        match self.state.prepare(self.alloc, &by, report) {
-            Ok(next) => {
-                let _ = self.state.commit(next);
-                Ok(())
-            }
+        match self.state.record(self.alloc, &by, report) {
+            Ok(_) => Ok(()),
             Err(cause) => Err(LoadFault {
                 at,
                 cause: LoadCause::Refused(cause),

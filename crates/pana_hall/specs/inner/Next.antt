@@ -5,6 +5,7 @@ use Rattle.pana_journal.specs.declared.report.Report.{Report}
 use Rattle.pana_journal.specs.declared.report.Report.TheVariants.{Edit, Register}
 use Rattle.pana_family.specs.declared.report.FamilyReport.{FamilyReport}
 use Rattle.pana_hall.specs.declared.listed_family.ListedFamily.{ListedFamily}
+use Rattle.pana_hall.specs.declared.next.Effects.{Effects}
 use Rattle.pana_hall.specs.declared.next.Next.{Next}
 use Rattle.pana_hall.specs.declared.next.Step.{Step}
 use Rattle.pana_hall.specs.declared.next.Step.TheVariants.{Begin, Change, Settle}
@@ -70,6 +71,10 @@ pub record IsNext (state : State) (next : Next) : Type 0 where
   pub copies : HasRoomFor next.entry.report state.copies
   pub sayings : AreSayings state.journal.entries next.entry state.contents.entries.items next.sayings
   pub step : IsStep next.entry (vec_len state.families.list) (vec_capacity state.families.list) state.families.list.items next.position (living state.journal.entries) next.step
+
+-- the next entry of a journal, with this report of a device, and what it changes
+abbrev pub next_of : List Entry → List ℕ → Report → Effects → Next
+next_of journal by report effects = record { entry = next_entry journal by report; position = effects.position; sayings = effects.sayings; step = effects.step }
 
 -- the step is what an entry makes of a family behind the one before it, when these copies live
 abbrev pub IsStepAfter : Entry → Entry → ListedFamily → List Copy → Step → Type 0

@@ -11,4 +11,4 @@ returns c =
     let inside = c.self.inside in
     let devices = keys_of inside.devices.entries in
     subst (λ t. CountsDevices t c.len.result) c.self.view_is
-    (devices, record { once = c.len.ensures.unique; those = devices_are inside.families.entries inside.places.keys inside.devices.entries c.self.invariant }, c.len.ensures.len ∙ sym (length-keys_of inside.devices.entries))
+    (devices, record { once = c.len.ensures.unique; those = devices_are inside.families.entries inside.places.keys inside.devices.entries c.self.invariant.0 }, c.len.ensures.len ∙ sym (length-keys_of inside.devices.entries))

@@ -39,4 +39,4 @@ returns-clause-found c =
     let all : map deref c.loop-device.yielded ≡ keys_of in_self.devices.entries = search (rules, iter_end) in
     let are = subst (λ devices. AreFound (place_of c.args.self.now) c.args.path.now devices found) all c.loop-device.invariant.found in
     let at_inside = subst (λ t. AreFound (place_of t) c.args.path.now (keys_of in_self.devices.entries) found) (sym c.self.view_is) are in
-    rw (← c.self.view_is) (found_all in_self.families.entries in_self.places.keys in_self.devices.entries c.self.invariant c.args.path.now found at_inside)
+    rw (← c.self.view_is) (found_all in_self.families.entries in_self.places.keys in_self.devices.entries c.self.invariant.0 c.args.path.now found at_inside)

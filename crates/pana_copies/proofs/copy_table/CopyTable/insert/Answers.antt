@@ -1,4 +1,4 @@
-use Rattle.std.proofs.Common.{◌≡◌, ℕ, ◌+◌, cond, nat_eq, List, OnOk, Some, None, sym, subst, ◌∙◌}
+use Rattle.std.proofs.Common.{◌≡◌, ℕ, ◌+◌, cond, nat_eq, List, [], ◌∷◌, ◌++◌, map, OnOk, Some, None, sym, subst, ap, ◌∙◌}
 use Rattle.std.specs.Map.{lookup}
 use Rattle.std.specs.Str.{bytes_eq}
 use Rattle.indexmap.specs.IndexMap.{insert_entry}
@@ -7,14 +7,16 @@ use Rattle.pana_copies.specs.Places.{same_place}
 use Rattle.pana_copies.specs.Spots.{kept, place_of}
 use Rattle.pana_copies.specs.inner.Counts.{counted, AreCounted}
 use Rattle.pana_copies.proofs.Counts.{counted_more}
+use Rattle.pana_copies.specs.inner.Marks.{mark_of}
 use Rattle.pana_copies.proofs.Kept.{pushed, Pushed}
+use Rattle.pana_copies.proofs.Marks.{marks_more}
 use Rattle.pana_copies.proofs.copy_table.CopyTable.insert.Goals as goal
 
 -- what the two sides are once both calls have returned
 after : (c : goal.After-unwrap-2) → Pushed c.self.inside.families.entries c.self.inside.places.keys c.args.copy c.args.family c.args.place c.insert.new.self.entries c.insert-2.new.self.keys
 unfolding kept
 after c =
-    pushed c.self.inside.families.entries c.self.inside.places.keys c.self.invariant.even c.args.copy c.args.family c.args.place
+    pushed c.self.inside.families.entries c.self.inside.places.keys c.self.invariant.0.even c.args.copy c.args.family c.args.place
     (subst (λ t. kept t c.args.copy ≡ None) (sym c.self.view_is) c.requires.new)
     (subst (λ t. (number : ℕ) → ¬ (place_of t number ≡ Some c.args.place)) (sym c.self.view_is) c.requires.free)
     c.insert.new.self.entries c.insert-2.new.self.keys
@@ -28,7 +30,10 @@ invariant_of-self c =
     let more = c.count_up.new.counts.entries in
     let device = c.copy_of.ensures in
     let says = λ (other : List ℕ). c.count_up.ensures.counts other ∙ (λ j. cond (bytes_eq (device j) other) (Some (counted counts (device j) + 1)) (lookup (bytes_eq other) counts)) in
-    record { even = (after c).even; counted = subst (AreCounted more) (sym (after c).places) (counted_more counts more c.self.inside.places.keys c.args.place c.self.invariant.counted says) }
+    let marks = c.self.inside.marks.items in
+    (record { even = (after c).even; counted = subst (AreCounted more) (sym (after c).places) (counted_more counts more c.self.inside.places.keys c.args.place c.self.invariant.0.counted says) },
+      c.push_reserved.ensures.items ∙ ap (λ mark. marks ++ mark ∷ []) c.mark.ensures
+      ∙ marks_more marks c.self.inside.places.keys c.args.place c.self.invariant.1 ∙ ap (map (λ place. mark_of place.device)) (sym (after c).places))
 
 pub returns-clause-spots : goal.returns-clause-spots
 unfolding kept

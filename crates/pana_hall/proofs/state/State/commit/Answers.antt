@@ -1,35 +1,16 @@
-use Rattle.pana_hall.proofs.Words.{◌≡◌, ℕ, ap, subst, nat_tests, arith, all_listed, next_entry}
-use Rattle.pana_hall.proofs.Listed.{ready_for, kept_next}
-use Rattle.pana_hall.proofs.NextSaid.{said_kept}
-use Rattle.pana_hall.specs.inner.Next.{TakesAfter}
-use Rattle.pana_hall.proofs.Twice.{second_next}
+use Rattle.pana_hall.proofs.Words.{◌≡◌, ◌+◌, ℕ, List, Entry, length, sym, subst}
+use Rattle.pana_hall.specs.declared.next.Next.{Next}
+use Rattle.pana_hall.specs.inner.Next.{IsNext, IsSecond, next_of}
 use Rattle.pana_hall.proofs.state.State.commit.Goals as goal
 
-pub make_step-requires-clause-ready : goal.make_step-requires-clause-ready
-make_step-requires-clause-ready c =
-    let next = c.args.next in
-    let families = c.args.self.now.families in
-    ready_for c.args.self.now.journal.entries next.entry.by next.entry.report (all_listed families.list.items) families.positions.items c.args.self.now.copies c.args.self.now.contents.entries.items c.requires.kept c.requires.next.free next.position c.requires.next.position
+-- a next entry is that of its parts
+same : (journal : List Entry) (next : Next) → next.entry.number ≡ length journal + 1
+    → next ≡ next_of journal next.entry.by next.entry.report (record { position = next.position; sayings = next.sayings; step = next.step })
+same journal next number = λ j. record { entry = record { number = number j; by = next.entry.by; report = next.entry.report }; position = next.position; sayings = next.sayings; step = next.step }
 
-pub returns-clause-records : goal.returns-clause-records
-returns-clause-records c =
-    let next = c.args.next in
-    let families = c.args.self.now.families in
-    let journal = c.args.self.now.journal.entries in
-    let list' = all_listed c.make_step.new.list.items in
-    let copies' = c.make_step.new.copies in
-    let all = kept_next journal next.entry.by next.entry.report (all_listed families.list.items) families.positions.items c.args.self.now.copies c.args.self.now.contents.entries.items c.requires.kept c.requires.next.free next.position c.requires.next.position list' copies' c.push.new.self.entries.items
-    (said_kept journal next.entry c.args.self.now.contents.entries.items c.push.new.self.entries.items next.sayings c.requires.next.number c.requires.kept.contents c.requires.next.sayings c.push.ensures.count c.push.ensures.at)
-    c.make_step.ensures.list
-    c.make_step.ensures.spots in
-    grind (arith, nat_tests, c.append.ensures.number, c.push_reserved.ensures.items)
+pub make-requires-clause-next : goal.make-requires-clause-next
+make-requires-clause-next c = subst (IsNext c.args.self.now) (same c.args.self.now.journal.entries c.args.next c.requires.next.number) c.requires.next
 
 pub returns-clause-behind : goal.returns-clause-behind
-returns-clause-behind c = λ second behind.
-    let old = c.args.self.now in
-    let next = c.args.next in
-    let all = returns-clause-records c in
-    let same : next.entry ≡ next_entry old.journal.entries next.entry.by next.entry.report = ap (λ (n : ℕ). record { number = n; by = next.entry.by; report = next.entry.report }) c.requires.next.number in
-    second_next old _ next second c.requires.kept c.requires.next behind all.kept all.entries c.push_reserved.ensures.items
-    (record { entries = grind (arith, nat_tests, behind.room); positions = grind (arith, nat_tests, behind.room); contents = grind (arith, nat_tests, behind.room) })
-    (λ lives after. c.make_step.ensures.behind second.entry lives second.step (subst (λ e. TakesAfter e second.entry old.families.list.items next.position lives second.step) same after))
+returns-clause-behind c = λ second is.
+    c.make.ensures.behind second (subst (λ next. IsSecond c.args.self.now next second) (same c.args.self.now.journal.entries c.args.next c.requires.next.number) is)
