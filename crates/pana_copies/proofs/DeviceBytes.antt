@@ -1,7 +1,7 @@
 -- A device's name is kept with zeros after it.
 use Rattle.std.proofs.Common.{◌≡◌, ℕ, true, List, sym, ap, subst}
 use Rattle.pana_copies.proofs.DeviceText.{before_zeros-copied}
-use Rattle.pana_copies.specs.Names.{is_device, before_zeros}
+use Rattle.pana_copies.specs.Names.{is_device}
 use Rattle.pana_copies.specs.inner.DeviceBytes.{AreDeviceBytes, with_zeros}
 
 -- a name that was copied over the first of 32 zeros

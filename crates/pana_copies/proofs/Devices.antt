@@ -1,6 +1,6 @@
 -- The devices that are counted are those on which a copy is kept.
-use Rattle.std.proofs.Common.{◌≡◌, ℕ, ◌<◌, ◌↔◌, true, false, cond, nat_eq, List, [], ◌∷◌, Option, Some, option_map, is_some, refl, sym, ap, ◌∙◌, arith}
-use Rattle.std.specs.List.{IsDistinct, list_any}
+use Rattle.std.proofs.Common.{◌≡◌, ℕ, ◌↔◌, true, nat_eq, List, [], ◌∷◌, Some, option_map, is_some, sym, ap, ◌∙◌, arith}
+use Rattle.std.specs.List.{list_any}
 use Rattle.std.specs.Map.{keys_of, lookup}
 use Rattle.std.specs.Str.{bytes_eq}
 use Rattle.std.proofs.lemmas.Bool.Decides.{nat_tests}

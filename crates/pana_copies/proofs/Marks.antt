@@ -1,5 +1,5 @@
 -- The bytes by which the copies of a device are found.
-use Rattle.std.proofs.Common.{◌≡◌, ℕ, zero, suc, ◌-◌, List, [], ◌∷◌, ◌++◌, length, get_or, map, set, take, slice_get, Option, Some, option_map, refl, sym, ap, ◌∙◌, arith}
+use Rattle.std.proofs.Common.{◌≡◌, ℕ, zero, suc, ◌-◌, List, [], ◌∷◌, ◌++◌, length, get_or, map, set, take, slice_get, Some, option_map, refl, sym, ap, ◌∙◌}
 use Rattle.std.specs.List.{swap_remove}
 use Rattle.std.proofs.lemmas.List.{length-map, map-append, map-set, take-map}
 use Rattle.std.proofs.lemmas.Option.{slice_get-map}

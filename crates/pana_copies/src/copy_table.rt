@@ -1,17 +1,18 @@
 //! Where the living copies are kept.
 #![tactic(auto, unfolding(crate::specs::Spots::kept))]
 
-ghost use Rattle.std.specs.Prelude.{◌≡◌, ℕ, ◌+◌, ◌<◌, ◌≤◌, ◌==◌, ◌↔◌, true, None, Some, IsSome, IfSome, IfOk, OnOk, if◌then◌else◌, length, nat_eq, option_map, option_and_then, slice_get};
-ghost use Rattle.std.specs.List.{IsDistinct, list_any};
+ghost use Rattle.std.specs.Prelude.{◌≡◌, ℕ, List, [], ◌+◌, ◌<◌, ◌≤◌, ◌==◌, ◌↔◌, true, None, Some, IsSome, IfSome, IfOk, OnOk, if◌then◌else◌, length, nat_eq, option_map, option_and_then, slice_get};
+ghost use Rattle.std.specs.List.{IsDistinct, list_any, position_or_len};
 ghost use Rattle.std.specs.Map.{keys_of};
 ghost use Rattle.pana_copies.specs.Spots.{kept, place_of, placed, AreRising, CountsDevices, HasPath, IsOnDevice};
-ghost use Rattle.pana_copies.specs.{inner.Marks.mark_of, inner.Sides.number_on};
+ghost use Rattle.pana_copies.specs.{inner.Marks.mark_of, inner.Sides.IsNextOn, inner.Sides.number_on, inner.Sides.numbers_behind};
 
 use crate::copy_path::CopyPath;
 use crate::device_counts::{count_down, count_up};
 use crate::device_name::DeviceName;
 use crate::place::Place;
 use indexmap::{IndexMap, IndexSet};
+use memchr::memchr;
 use std::alloc::{AllocError, Global};
 use std::marker::Model;
 
@@ -55,15 +56,12 @@ impl Model for CopyTable {
     ghost invariant = { λ a. IsIndexed a.families.entries a.places.keys a.devices.entries × AreMarks a.marks.items a.places.keys };
 }
 
-/// Whether the mark at an index is this one.
-#[inline(always)]
-fn is_marked(marks: &[u8], index: usize, mark: u8) -> bool
-    ensures { IfSome (slice_get marks.now index) (λ there. result ≡ (there == mark)) }
+/// Where a byte stands first.
+fn first_of(byte: u8, bytes: &[u8]) -> Option<usize>
+    ensures some { IfSome result (λ at. (at ≡ position_or_len (λ other. other == byte) bytes.now) × (at < length bytes.now)) }
+    ensures none { result ≡ None → position_or_len (λ other. other == byte) bytes.now ≡ length bytes.now }
 {
-    match marks.get(index) {
-        Some(there) => *there == mark,
-        None => false,
-    }
+    memchr(byte, bytes)
 }
 
 /// The family of a copy, and the place where it is kept.
@@ -162,20 +160,29 @@ impl CopyTable {
     }
 
     /// The number of the copy at an index, where it is kept on the device and isn't below this one.
-    #[inline(always)]
-    fn number_on(&self, device: &DeviceName, mark: u8, from: u64, index: usize) -> Option<u64>
-        requires { mark ≡ mark_of device.now }
+    fn number_on(&self, device: &DeviceName, from: u64, index: usize) -> Option<u64>
         ensures { result ≡ option_and_then (number_on device.now from) (slice_get self.now.spots index) }
     {
         let place = self.places.get_index(index)?;
-        if !is_marked(&self.marks, index, mark) {
-            return None;
-        }
         if place.device != *device {
             return None;
         }
         let (copy, _) = self.families.get_index(index)?;
         (*copy >= from).then_some(*copy)
+    }
+
+    /// The first index from this one on whose copy may be on a device with this mark.
+    fn next_marked(&self, mark: u8, at: usize) -> Option<usize>
+        ensures within { IfSome result (λ index. (at ≤ index) × (index < length self.now.spots)) }
+        ensures found { IfSome result (λ index. (device : List ℕ) (from : ℕ) → mark ≡ mark_of device → IsNextOn device from self.now.spots at index) }
+        ensures none { result ≡ None → (device : List ℕ) (from : ℕ) → mark ≡ mark_of device → numbers_behind device from self.now.spots at ≡ [] }
+    {
+        let marks = self.marks.as_slice();
+        if at > marks.len() {
+            return None;
+        }
+        let behind = first_of(mark, &marks[at..])?;
+        Some(at + behind)
     }
 
     /// The copies with a number from this one on that are kept on the device, in no order that counts.
@@ -192,12 +199,16 @@ impl CopyTable {
         ensures once { IfOk result (λ found. IsDistinct nat_eq found.items) }
         ensures found { IfOk result (λ found. (copy : ℕ) → (list_any (λ n. n == copy) found.items ≡ true) ↔ IsOnDevice self.now device.now from copy) }
     {
+        // whose contract says that no copy comes twice
+        let _ = self.len();
         let mark = device.mark();
         let mut copies = Vec::new(alloc);
-        for index in 0..self.families.len() {
-            if let Some(copy) = self.number_on(device, mark, from, index) {
+        let mut at = 0;
+        while let Some(index) = self.next_marked(mark, at) {
+            if let Some(copy) = self.number_on(device, from, index) {
                 copies.push(copy)?;
             }
+            at = index + 1;
         }
         Ok(copies)
     }

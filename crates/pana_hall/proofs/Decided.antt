@@ -1,11 +1,10 @@
 -- What a sighting comes to, by the numbers of copies.
 use Rattle.pana_hall.proofs.Words.{◌≡◌, ℕ, Bool, true, false, not, ◌&&◌, ◌||◌, ◌==◌, List, [], ◌∷◌, map, filter, find, list_any, Option, Some, None, is_none, is_some, option_map, option_and_then, unwrap_or}
-use Rattle.pana_hall.proofs.Words.{filter_agree, refl, sym, ap, ap₂, ◌∙◌, subst, arith, nat_tests, map-map, then_some, AllByRecursion, Place, Table, Entry, Copy, copy_in, living, is_of, IsAccepted, AreSpots}
-use Rattle.pana_hall.proofs.Words.{◌<◌, AreRising, In, any_from, eq-eqb, eqb-true, has, in_filter, cond, inl, inr}
+use Rattle.pana_hall.proofs.Words.{filter_agree, refl, sym, ap, ap₂, ◌∙◌, arith, nat_tests, map-map, then_some, AllByRecursion, Place, Table, Entry, Copy, copy_in, living, is_of, IsAccepted, AreSpots}
+use Rattle.pana_hall.proofs.Words.{AreRising, has}
 use Rattle.std.proofs.Common.{◌↔◌}
 use Rattle.std.proofs.lemmas.Slice.Eq.{bytes_eq-Decides}
 use Rattle.pana_copies.specs.Spots as tables
-use Rattle.pana_family.proofs.Members.{any_some, from_both, to_filter}
 use Rattle.pana_hall.proofs.Words.{Edit, Reconcile, Merge, Remove, Note, IsSome, IsThere}
 use Rattle.pana_calls.specs.declared.call.Sighting.{Sighting}
 use Rattle.pana_calls.specs.declared.call.Sighting.TheVariants.{Found, Missing}
@@ -22,11 +21,11 @@ use Rattle.pana_hall.specs.Finding.{best, decision, elsewhere, first_or, found, 
 use Rattle.pana_hall.specs.inner.Rows.{place_at, sum_in}
 use Rattle.pana_hall.specs.inner.Relatives.{first_number, relative, relatives_of}
 use Rattle.pana_hall.specs.inner.Finding.{again_in, best_in, heir_in, holders_in, holds_so, is_elsewhere, is_newer, is_other, is_unlike, knows_all, passes, source_of}
-use Rattle.pana_hall.proofs.Lists.{each_filter, each_of, each_weaker, filter_filter, found_by, rises_each, rises_filter, rises_map}
+use Rattle.pana_hall.proofs.Lists.{each_filter, each_of, each_weaker, filter_filter, found_by}
 use Rattle.pana_hall.proofs.Moves.{found_number}
-use Rattle.pana_hall.proofs.{Listed.same_by_key, Places.living_found, Ready.at_spots, Ready.place_spots, Runs.rising}
+use Rattle.pana_hall.proofs.{Places.living_found, Ready.place_spots}
 use Rattle.pana_hall.proofs.Numbered.{LivesAmong, filter_rises, has_filter, numbers_of, passes_is}
-use Rattle.pana_hall.proofs.Related.{any_alike, each_from, each_in, filter_alike, find_alike, find_filter, has_copy, own_found, related, relatives_are, there_is}
+use Rattle.pana_hall.proofs.Related.{any_alike, filter_alike, find_alike, find_filter, has_copy, own_found, related, relatives_are, there_is}
 
 -- The best of some copies, by their numbers.
 

@@ -1,5 +1,5 @@
 -- The holdings of a device, by the numbers of its copies.
-use Rattle.pana_hall.proofs.Words.{◌≡◌, ℕ, zero, suc, ◌≤◌, ◌<◌, ◌+◌, Bool, true, false, ◌&&◌, ◌==◌, List, [], ◌∷◌, ◌++◌, length, map, filter, take, list_any, Option, Some, None, option_map, option_and_then, unwrap_or, filter_map, option_to_list, nat_le}
+use Rattle.pana_hall.proofs.Words.{◌≡◌, ℕ, zero, suc, ◌≤◌, ◌<◌, ◌+◌, Bool, true, false, ◌&&◌, ◌==◌, List, [], ◌∷◌, ◌++◌, length, map, filter, take, list_any, Option, Some, None, option_map, unwrap_or, filter_map, option_to_list, nat_le}
 use Rattle.pana_hall.proofs.Words.{refl, sym, ap, ◌∙◌, subst, arith, nat_tests, AllByRecursion, Place, Table, Entry, Copy, copy_in, living, IsAccepted, AreSpots, Holding, holding, holdings, holding_in, bytes_eq, has, take_more}
 use Rattle.std.proofs.Common.{◌↔◌, get_or}
 use Rattle.std.proofs.lemmas.Bool.{and_parts, and_from, le-leb, leb-true}
@@ -58,9 +58,12 @@ module _ (journal : List Entry) (table : Table) (device : List ℕ) (from : ℕ)
       by_copy : (o : Option Copy) → copy_in (living journal) n ≡ o → unwrap_or (option_map (is_wanted device from) o) false ≡ true → tables.IsOnDevice table device from n
       by_copy None at e = absurd (cc)
       by_copy (Some x) at e =
-          let both = and_parts (bytes_eq x.place.device device) (nat_le from x.known.copy) e in
-          (x.place, place_spots journal table spots n ∙ ap (option_map (λ copy. copy.place)) at, (bytes_eq-Decides x.place.device device).0 both.0,
-            subst (λ k. from ≤ k) (found_number (living journal) n x at) (leb-true from x.known.copy both.1))
+          let both = and_parts (bytes_eq x.place.device device) (nat_le from x.known.copy) e in (
+            x.place,
+            place_spots journal table spots n ∙ ap (option_map (λ copy. copy.place)) at,
+            (bytes_eq-Decides x.place.device device).0 both.0,
+            subst (λ k. from ≤ k) (found_number (living journal) n x at) (leb-true from x.known.copy both.1),
+          )
 
   each_held : AllByRecursion (λ c. holding_in (living journal) device c.known.copy ≡ Some (holding c)) wanted
   unfolding copies_of

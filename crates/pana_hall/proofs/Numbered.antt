@@ -1,5 +1,5 @@
 -- Living copies by their numbers.
-use Rattle.pana_hall.proofs.Words.{◌≡◌, ℕ, ◌<◌, ◌+◌, Bool, true, false, ◌&&◌, ◌==◌, List, [], ◌∷◌, ◌++◌, map, filter, find, list_any, Option, Some, None, option_map, unwrap_or}
+use Rattle.pana_hall.proofs.Words.{◌≡◌, ℕ, ◌<◌, Bool, true, false, ◌&&◌, ◌==◌, List, [], ◌∷◌, map, filter, find, list_any, Option, Some, None, option_map, unwrap_or}
 use Rattle.pana_hall.proofs.Words.{refl, sym, ap, ◌∙◌, subst, arith, nat_tests, then_some, AllByRecursion, Entry, Copy, copy_in, living, IsAccepted, AreRising, In, any_from, eq-eqb, eqb-true, has, in_filter, cond, inl, inr}
 use Rattle.pana_copies.specs.Spots as tables
 use Rattle.pana_family.proofs.Members.{any_some, from_both, to_filter}

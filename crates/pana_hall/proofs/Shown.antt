@@ -1,14 +1,14 @@
 -- Boards and holdings, as they are answered.
-use Rattle.pana_hall.proofs.Words.{◌≡◌, ℕ, Bool, List, [], ◌∷◌, map, filter, Option, Some, IsSome, is_some, option_map, unwrap_or, ◌+◌, ◌≤◌, cond, nat_le, ◌++◌, None, option_and_then, AllByRecursion}
-use Rattle.pana_hall.proofs.Words.{refl, sym, ap, ◌∙◌, subst, arith, map-append, Place, Table, kept, Entry, CopyCounts, Known, BoardRow, Copy, copy_in, living, all_known, is_of, sets_of, family_row}
-use Rattle.pana_hall.proofs.Words.{holding, holdings, IsAccepted, sets_at, spot_of, AreSpots, placed_row, option_to_list, bytes_eq, Holding, AreRising, filter-append, map-map, nat_tests, row_of_sets}
+use Rattle.pana_hall.proofs.Words.{◌≡◌, ℕ, Bool, List, [], ◌∷◌, map, filter, Option, Some, IsSome, is_some, option_map, unwrap_or, ◌+◌, ◌≤◌, nat_le, ◌++◌, AllByRecursion}
+use Rattle.pana_hall.proofs.Words.{refl, sym, ap, ◌∙◌, subst, arith, Place, Table, kept, Entry, CopyCounts, Known, BoardRow, Copy, copy_in, living, all_known, is_of, sets_of, family_row}
+use Rattle.pana_hall.proofs.Words.{holdings, IsAccepted, sets_at, spot_of, AreSpots, placed_row, option_to_list, Holding, AreRising, map-map, nat_tests, row_of_sets}
 use Rattle.pana_hall.proofs.Words.{true}
 use Rattle.pana_rel.specs.Board.{counts_of, is_split, newest_of}
 use Rattle.pana_family.specs.Board as board
 use Rattle.pana_family.specs.Table as table
 use Rattle.pana_hall.specs.Board.{row_of, board_of}
 use Rattle.pana_hall.proofs.Lists.{each_filter, each_map, each_of, each_weaker, filter_twice, map_same, filter_all, none_under}
-use Rattle.pana_hall.proofs.{Moves.found_number, Stood.copies_sets, Ready.place_spots, Places.living_found}
+use Rattle.pana_hall.proofs.{Stood.copies_sets, Ready.place_spots, Places.living_found}
 
 -- A family's board from its table of sets: the one of its copies.
 

@@ -308,11 +308,13 @@ impl State {
         ensures next { IfOk result (IsNext self.new) }
     {
         match self.effects_of(alloc, by, &report) {
-            Ok(Effects {
-                position,
-                sayings,
-                step,
-            }) => Ok(Next {
+            Ok(
+                Effects {
+                    position,
+                    sayings,
+                    step,
+                },
+            ) => Ok(Next {
                 entry: entry_of(self.journal.length() + 1, by, report),
                 position,
                 sayings,

@@ -30,10 +30,11 @@ invariant_of-self c =
     let more = c.count_up.new.counts.entries in
     let device = c.copy_of.ensures in
     let says = λ (other : List ℕ). c.count_up.ensures.counts other ∙ (λ j. cond (bytes_eq (device j) other) (Some (counted counts (device j) + 1)) (lookup (bytes_eq other) counts)) in
-    let marks = c.self.inside.marks.items in
-    (record { even = (after c).even; counted = subst (AreCounted more) (sym (after c).places) (counted_more counts more c.self.inside.places.keys c.args.place c.self.invariant.0.counted says) },
+    let marks = c.self.inside.marks.items in (
+      record { even = (after c).even; counted = subst (AreCounted more) (sym (after c).places) (counted_more counts more c.self.inside.places.keys c.args.place c.self.invariant.0.counted says) },
       c.push_reserved.ensures.items ∙ ap (λ mark. marks ++ mark ∷ []) c.mark.ensures
-      ∙ marks_more marks c.self.inside.places.keys c.args.place c.self.invariant.1 ∙ ap (map (λ place. mark_of place.device)) (sym (after c).places))
+          ∙ marks_more marks c.self.inside.places.keys c.args.place c.self.invariant.1 ∙ ap (map (λ place. mark_of place.device)) (sym (after c).places),
+    )
 
 pub returns-clause-spots : goal.returns-clause-spots
 unfolding kept

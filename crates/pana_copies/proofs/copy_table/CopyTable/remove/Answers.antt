@@ -50,12 +50,14 @@ invariant_of-self c =
     let at = sym c.swap_remove_index-2.ensures.key ∙ c.unwrap-place.ensures in
     let marks = c.self.inside.marks.items in
     let mark = c.swap_remove.result in
-    let is : mark ≡ mark_of p.device = c.swap_remove.ensures.value ∙ get_or_from_slice_get marks i _ mark (mark_there marks ps i p c.self.invariant.1 at) in
-    (record {
-      even = (after c).even;
-      counted = subst (AreCounted fewer) (sym places)
-          (counted_fewer c.self.inside.devices.entries fewer ps i p c.self.invariant.0.counted at c.count_down.ensures.counts);
-    }, c.swap_remove.ensures.items ∙ marks_fewer marks ps i p mark c.self.invariant.1 is ∙ ap (map (λ place. mark_of place.device)) (sym places))
+    let is : mark ≡ mark_of p.device = c.swap_remove.ensures.value ∙ get_or_from_slice_get marks i _ mark (mark_there marks ps i p c.self.invariant.1 at) in (
+      record {
+        even = (after c).even;
+        counted = subst (AreCounted fewer) (sym places)
+            (counted_fewer c.self.inside.devices.entries fewer ps i p c.self.invariant.0.counted at c.count_down.ensures.counts);
+      },
+      c.swap_remove.ensures.items ∙ marks_fewer marks ps i p mark c.self.invariant.1 is ∙ ap (map (λ place. mark_of place.device)) (sym places),
+    )
 
 pub returns-clause-spots : goal.returns-clause-spots
 unfolding kept

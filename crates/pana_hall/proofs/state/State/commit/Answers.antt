@@ -1,4 +1,4 @@
-use Rattle.pana_hall.proofs.Words.{◌≡◌, ◌+◌, ℕ, List, Entry, length, sym, subst}
+use Rattle.pana_hall.proofs.Words.{◌≡◌, ◌+◌, List, Entry, length, subst}
 use Rattle.pana_hall.specs.declared.next.Next.{Next}
 use Rattle.pana_hall.specs.inner.Next.{IsNext, IsSecond, next_of}
 use Rattle.pana_hall.proofs.state.State.commit.Goals as goal

@@ -1,4 +1,4 @@
-use Rattle.pana_hall.proofs.Words.{◌≡◌, ℕ, ap, subst, nat_tests, arith, all_listed, next_entry}
+use Rattle.pana_hall.proofs.Words.{nat_tests, arith, all_listed}
 use Rattle.pana_hall.proofs.Listed.{ready_for, kept_next}
 use Rattle.pana_hall.proofs.NextSaid.{said_kept}
 use Rattle.pana_hall.specs.inner.Next.{next_of}
