@@ -1,14 +1,18 @@
 -- A flat object is read as its members, the last of each name.
-use Rattle.std.proofs.Common.{◌≡◌, ℕ, ◌<◌, ◌≤◌, ◌^◌, Bool, true, false, cond, ◌==◌, List, [], ◌∷◌, ◌++◌, length, get_or, Option, Some, None, IfSome, option_map, option_and_then, refl, sym, ap, ◌∙◌, arith, append_assoc}
-use Rattle.std.specs.Option.{SomeIff}
+use Rattle.std.proofs.Common.{◌≡◌, ℕ, ◌+◌, ◌<◌, ◌≤◌, ◌^◌, Bool, true, false, cond, ◌==◌, List, [], ◌∷◌, ◌++◌, length, take, get_or, Option, Some, None, option_map, option_and_then, refl, sym, ap, subst, ◌∙◌, arith, append-nil, append_assoc, ne_eqb}
 use Rattle.std.specs.Str.{bytes_eq}
-use Rattle.std.proofs.lemmas.Bool.{lt-ltb, eq-eqb, false≢true}
+use Rattle.std.specs.Str.Parse.{digits_value, without_leading_plus, IsNumeral}
+use Rattle.std.proofs.lemmas.Bool.{lt-ltb, false≢true}
+use Rattle.std.proofs.lemmas.List.{take_more}
 use Rattle.std.proofs.lemmas.Slice.Eq.{bytes_eq-Decides}
-use Rattle.fast_float.specs.Text.{Parts, scan, digits_of, IsInteger}
+use Rattle.std.proofs.lemmas.Str.Parse.{digit_from_value}
+use Rattle.fast_float.specs.Text.{Parts, IsWellFormed, scan, digits_of}
+use Rattle.fast_float.proofs.Writing.{scan-text_of}
 use Rattle.json.specs.Token.{Token}
+use Rattle.json.specs.Print.{IsNumber}
+use Rattle.json.specs.Word.{after_number}
 use Rattle.json.specs.Lex.{tokens}
 use Rattle.json.specs.Json as json
-use Rattle.json.specs.Print.{IsNumber}
 use Rattle.json.specs.Tree.{json_tokens, members_tokens, depth, members_depth}
 use Rattle.json.proofs.Printed.Trees.{value-json_tokens}
 use Rattle.serde_json.specs.Data.{unsigned, number, object, Members, no_members, put}
@@ -22,16 +26,37 @@ use Rattle.pana_wire.specs.inner.FlatObject.{AreSound, IsSound, content_data, co
 
 -- ---- a number
 
-pub natural_is : (s : List ℕ) (p : Parts) (r : Option ℕ) → SomeIff r (IsInteger p × (digits_of p < 2 ^ 64)) (digits_of p) → p ≡ scan s → (get_or s 0 0 == 45) ≡ false → IsNumber s
-    → IfSome r (λ n. IsNumber s × (number_of s ≡ Some (unsigned n)))
+-- no number of JSON begins with a plus
+no_plus : (c : ℕ) (cs : List ℕ) → IsNumber (c ∷ cs) → c ≡ 43 → ⊥
+unfolding after_number
+no_plus c cs is plus = let none : after_number (c ∷ cs) ≡ None = rw plus refl in let both : None ≡ Some [] = sym none ∙ is in cc
+
+bare : (s : List ℕ) → IsNumber s → (get_or s 0 0 == 43) ≡ false
+bare [] is = refl
+bare (c ∷ cs) is = ne_eqb c 43 (no_plus c cs is)
+
+-- nor digits with a minus
+unsigned_digits : (s : List ℕ) → IsNumeral 10 s → (get_or s 0 0 == 45) ≡ false
+unsigned_digits [] is = absurd (omega (arith, is.0))
+unsigned_digits (d ∷ ds) is = let digit = digit_from_value d is.1.0 in ne_eqb d 45 (λ e. omega (arith, e, digit.0))
+
+digits_read : (s : List ℕ) → IsNumeral 10 s → digits_value 10 s < 2 ^ 64 → number_of s ≡ Some (unsigned (digits_value 10 s))
 unfolding number_of
-natural_is s p None is parts plain written = tt
-natural_is s p (Some n) is parts plain written =
-    let some = lt-ltb 0 (length p.whole) is.0.0.0 in
-    let bare = eq-eqb (length p.exponent) 0 is.0.0.2 in
-    let fits = lt-ltb (digits_of p) (2 ^ 64) is.0.1 in
-    let is_read : number_from false p ≡ Some (unsigned (digits_of p)) = rw (some, is.0.0.1, bare, fits) refl in
-    (written, rw plain (ap (number_from false) (sym parts) ∙ is_read ∙ ap (λ (k : ℕ). Some (unsigned k)) (sym is.1)))
+digits_read s is fits =
+    let p : Parts = record { whole = s; point = false; fraction = []; exponent_negative = false; exponent = []; len = length (s ++ []) } in
+    let formed : IsWellFormed p = record { whole_digits = is.1; fraction_digits = tt; exponent_digits = tt; no_point = λ _. refl; no_exponent = λ _. refl; len_is = refl } in
+    let parts : scan s ≡ p = ap scan (sym (append-nil s)) ∙ scan-text_of p formed in
+    let some = lt-ltb 0 (length s) is.0 in
+    let whole : digits_of p ≡ digits_value 10 s = ap (digits_value 10) (append-nil s) in
+    let small = lt-ltb (digits_value 10 s) (2 ^ 64) fits in
+    rw (unsigned_digits s is) (ap (number_from false) parts ∙ rw (some, whole, small) refl)
+
+-- what is parsed is read as the same number
+pub natural_is : (s : List ℕ) (n : ℕ) → IsNumber s → IsNumeral 10 (without_leading_plus s) → digits_value 10 (without_leading_plus s) < 2 ^ 64 → n ≡ digits_value 10 (without_leading_plus s)
+    → number_of s ≡ Some (unsigned n)
+natural_is s n is digits fits value =
+    let same : without_leading_plus s ≡ s = rw (bare s is) refl in
+    digits_read s (subst (IsNumeral 10) same digits) (subst (λ (l : List ℕ). digits_value 10 l < 2 ^ 64) same fits) ∙ ap (λ (k : ℕ). Some (unsigned k)) (sym (value ∙ ap (digits_value 10) same))
 
 -- ---- members
 
@@ -110,3 +135,22 @@ pub content_found : (name : List ℕ) (ms : List Member) (before : Option Conten
     → option_map content_data (content_of name ms before) ≡ get_member name (put_all ms found)
 content_found name [] before found h = h
 content_found name (m ∷ ms) before found h = content_found name ms _ _ (named (bytes_eq m.name.now name) name m.name.now m.content before found refl h)
+
+-- one member more
+content_last : (name : List ℕ) (ms : List Member) (m : Member) (found : Option Content) → content_of name (ms ++ m ∷ []) found ≡ cond (bytes_eq m.name.now name) (Some m.content) (content_of name ms found)
+content_last name [] m found = refl
+content_last name (n ∷ ms) m found = content_last name ms m (cond (bytes_eq n.name.now name) (Some n.content) found)
+
+content_step : (name : List ℕ) (ms : List Member) (i left : ℕ) (d : Member) → left ≡ i + 1 → i < length ms
+    → content_of name (take left ms) None ≡ cond (bytes_eq (get_or ms i d).name.now name) (Some (get_or ms i d).content) (content_of name (take i ms) None)
+content_step name ms i left d one less =
+    ap (λ (k : ℕ). content_of name (take k ms) None) one ∙ ap (λ (l : List Member). content_of name l None) (take_more ms i d less) ∙ content_last name (take i ms) (get_or ms i d) None
+
+-- from the end: a member of another name is passed over, and one of this name is what is found
+pub content_passed : (name : List ℕ) (ms : List Member) (i left : ℕ) (d : Member) → left ≡ i + 1 → i < length ms → bytes_eq (get_or ms i d).name.now name ≡ false
+    → content_of name (take left ms) None ≡ content_of name (take i ms) None
+content_passed name ms i left d one less other = content_step name ms i left d one less ∙ rw other refl
+
+pub content_met : (name : List ℕ) (ms : List Member) (i left : ℕ) (d : Member) → left ≡ i + 1 → i < length ms → bytes_eq (get_or ms i d).name.now name ≡ true
+    → content_of name (take left ms) None ≡ Some (get_or ms i d).content
+content_met name ms i left d one less this = content_step name ms i left d one less ∙ rw this refl

@@ -11,7 +11,7 @@ ghost use Rattle.pana_wire.specs.inner.FlatEntries.{AreListed, text_says};
 
 use crate::fault::WireFault;
 use crate::field::Field;
-use crate::flat_object::{FlatObject, Member, members_in};
+use crate::flat_object::{FlatObject, Member, Members, read_members};
 use crate::object::Object;
 use crate::reading::{device_in, number_in, report_in, word_in};
 use json::{Reader, Scratch, Token};
@@ -43,7 +43,8 @@ pub fn flat_entries<'a>(
         return None;
     }
     let entries = listed_in(alloc, &mut reader)?;
-    let others = members_in(alloc, &mut reader)?;
+    let mut others = Members::new(alloc);
+    read_members(&mut reader, &mut others)?;
     if !lack_entries(others.as_slice()) {
         return None;
     }
@@ -69,16 +70,18 @@ fn opens_entries<'a>(reader: &mut Reader<'a>) -> bool
     name == Field::Entries.name()
 }
 
-// The entries up to the bracket behind the last.
+// The entries up to the bracket behind the last. All are read by one list of members, since a list is large to be made.
 fn listed_in<'a>(alloc: Global, reader: &mut Reader<'a>) -> Option<EntryList>
     ensures { IfSome result (AreListed reader.old (end_array ∷ reader.new)) }
 {
+    let mut object = FlatObject::new(alloc);
     let mut entries = Vec::new(alloc);
     loop {
         match reader.next()? {
             Token::BeginObject => {
-                let members = members_in(alloc, reader)?;
-                let entry = entry_in(alloc, &FlatObject { members }).ok()?;
+                object.members.clear();
+                read_members(reader, &mut object.members)?;
+                let entry = entry_in(alloc, &object).ok()?;
                 entries.push(entry).ok()?;
             }
             Token::EndArray => return Some(EntryList::from_vec(entries)),

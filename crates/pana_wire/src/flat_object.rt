@@ -1,5 +1,5 @@
 //! Flat objects: objects in JSON of texts, whole numbers and `null` alone.
-ghost use Rattle.std.specs.Prelude.{◌≡◌, ◌==◌, [], ◌∷◌, IfSome, Some, option_map, slice_index};
+ghost use Rattle.std.specs.Prelude.{◌≡◌, [], ◌∷◌, IfSome, Some, option_map};
 ghost use Rattle.json.specs.Print.{IsNumber};
 ghost use Rattle.json.specs.Token.{end_object};
 ghost use Rattle.serde_json.specs.Data.{unsigned};
@@ -9,18 +9,19 @@ ghost use Rattle.pana_wire.specs.inner.FlatObject.{AreSound, IsSound, content_da
 
 use crate::field::Field;
 use crate::object::Object;
-use fast_float::Numeral;
-use json::{Reader, Scratch, Token, is_number};
+use fast_float::parse_u64;
+use json::{Reader, Scratch, Token};
 use smallvec::SmallVec;
 use std::alloc::Global;
 
 /// What a member has.
 #[derive(Clone, Copy)]
 pub enum Content<'a> {
+    // The first, so that a blank member is nearly all zeros, which are written faster.
+    Null,
     Text(&'a str),
     /// A number of 64 bits: its digits, and the number.
     Number(&'a str, u64),
-    Null,
 }
 
 #[derive(Clone, Copy)]
@@ -97,16 +98,6 @@ pub fn read_members<'a>(reader: &mut Reader<'a>, members: &mut Members<'a>) -> O
     }
 }
 
-/// The members up to the brace behind the last.
-pub fn members_in<'a>(alloc: Global, reader: &mut Reader<'a>) -> Option<Members<'a>>
-    ensures tokens { IfSome result (λ members. reader.old ≡ members_then members.items (end_object ∷ reader.new)) }
-    ensures sound { IfSome result (λ members. AreSound members.items) }
-{
-    let mut members = SmallVec::new(alloc);
-    read_members(reader, &mut members)?;
-    Some(members)
-}
-
 fn content_in<'a>(reader: &mut Reader<'a>) -> Option<Content<'a>>
     ensures token { IfSome result (λ content. reader.old ≡ content_token content ∷ reader.new) }
     ensures sound { IfSome result (λ content. IsSound content) }
@@ -120,33 +111,29 @@ fn content_in<'a>(reader: &mut Reader<'a>) -> Option<Content<'a>>
 }
 
 fn natural(digits: &str) -> Option<u64>
-    ensures { IfSome result (λ number. IsNumber digits.now × (number_of digits.now ≡ Some (unsigned number))) }
+    requires { IsNumber digits.now }
+    ensures { IfSome result (λ number. number_of digits.now ≡ Some (unsigned number)) }
 {
-    let bytes = digits.as_bytes();
-    if has_minus(bytes) || !is_number(digits) {
-        return None;
+    match parse_u64(digits.as_bytes()) {
+        Ok(number) => Some(number),
+        Err(_) => None,
     }
-    Numeral::scan(bytes).to_u64()
-}
-
-fn has_minus(bytes: &[u8]) -> bool
-    ensures { result ≡ (slice_index bytes.now 0 == 45) }
-{
-    !bytes.is_empty() && bytes[0] == b'-'
 }
 
 impl<'a> FlatObject<'a> {
-    // What the last member of a name has.
+    // What the last member of a name has. It is looked for from the end, so the first that is met is that one.
     fn content(&self, name: &str) -> Option<Content<'a>>
         ensures { option_map content_data result ≡ get name.now (flat_json self.now) }
     {
-        let mut found = None;
-        for member in self.members.as_slice() {
-            if member.name == name {
-                found = Some(member.content);
+        let members = self.members.as_slice();
+        let mut left = members.len();
+        while left > 0 {
+            left -= 1;
+            if members[left].name == name {
+                return Some(members[left].content);
             }
         }
-        found
+        None
     }
 }
 

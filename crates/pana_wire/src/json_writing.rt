@@ -11,6 +11,7 @@ ghost use Rattle.serde_json.specs.Written.{compact_text, outline};
 ghost use Rattle.pana_wire.specs.inner.Names.{IsSumOrNone};
 ghost use Rattle.pana_wire.specs.inner.Pieces.{number_tokens, text_tokens};
 
+use itoa::Buffer;
 use json::Writer;
 use pana_copies::Sum;
 use std::alloc::{AllocError, Global};
@@ -211,6 +212,38 @@ pub(crate) fn member_text<T: WriteJson>(
     content.write(&mut out)?;
     out.end_object()?;
     Ok(written_bytes(out))
+}
+
+/// A text that is known before, in the room that is given. Fails only where memory runs out.
+#[inline(always)]
+pub(crate) fn known_text(room: Vec<u8>, text: &str) -> Result<Vec<u8>, AllocError>
+    requires { room.items ≡ [] }
+    ensures text { IfOk result (λ bytes. bytes.items ≡ text.now) }
+    ensures utf8 { IfOk result (λ bytes. IsUtf8 bytes.items) }
+{
+    let mut bytes = room;
+    bytes.extend_from_slice(text.as_bytes())?;
+    Ok(bytes)
+}
+
+/// A text of which all but one number is known before, in the room that is given. Fails only where memory runs out.
+#[inline(always)]
+pub(crate) fn text_around(
+    room: Vec<u8>,
+    before: &str,
+    number: u64,
+    behind: &str,
+) -> Result<Vec<u8>, AllocError>
+    requires { room.items ≡ [] }
+    ensures text { IfOk result (λ bytes. bytes.items ≡ before.now ++ (decimal number ++ behind.now)) }
+    ensures utf8 { IfOk result (λ bytes. IsUtf8 bytes.items) }
+{
+    let mut bytes = room;
+    let mut digits = Buffer::new();
+    bytes.extend_from_slice(before.as_bytes())?;
+    bytes.extend_from_slice(digits.format(number).as_bytes())?;
+    bytes.extend_from_slice(behind.as_bytes())?;
+    Ok(bytes)
 }
 
 /// The text of an object whose one member is an array of these, in the room that is given. Fails only where memory runs out.

@@ -1,5 +1,8 @@
-ghost use Rattle.std.specs.Prelude.{◌≡◌, ◌≢◌, [], IfErr, OnOk};
+ghost use Rattle.std.specs.Prelude.{◌≡◌, ◌≢◌, None, [], false, IfErr, OnOk};
+ghost use Rattle.serde_json.specs.Read.{read};
 ghost use Rattle.serde_json.specs.View.{view};
+ghost use Rattle.pana_wire.specs.declared.field.Field.TheVariants.{Device, Path};
+ghost use Rattle.pana_wire.specs.declared.word.Word.TheVariants.{Duplicate, Register, Relocate};
 ghost use Rattle.pana_wire.specs.Line.{Gives, IsText, Shows, text_within, data_in, object_in, device_in, path_in, number_in, sum_in, journal_query, number_or_none, seconds_in, seconds_or_none, device_or_none, sum_or_none, place_in, word_in, numbered_in, report_in, asked_in, call_in, message_in, line_says};
 
 use crate::fault::WireFault;
@@ -7,7 +10,7 @@ use crate::field::Field;
 use crate::flat_object::{FlatObject, read_flat};
 use crate::object::Object;
 use crate::word::{Word, word_of};
-use json::Scratch;
+use json::{Reader, Scratch};
 use pana_calls::{Call, Message, Query, Sighting};
 use pana_copies::{CopyPath, DeviceName, NameFault, Place, Sum};
 use pana_journal::Report;
@@ -19,6 +22,9 @@ const LONGEST_LINE: usize = 65536;
 
 /// For how many seconds at most an answer may be waited for.
 const LONGEST_WAIT: u64 = 3600;
+
+/// How deep the arrays and objects of a value may nest.
+const DEEPEST: usize = 127;
 
 /// Reads lines, with memory that is kept from line to line.
 pub struct LineReader {
@@ -78,19 +84,54 @@ impl LineReader {
         let LineReader { alloc, scratch, .. } = self;
         let text = text_within(line, LONGEST_LINE)?;
         let mut object = FlatObject::new(*alloc);
-        if let Some(()) = read_flat(text, scratch, &mut object) {
-            return message_in(*alloc, &object);
+        match read_flat(text, scratch, &mut object) {
+            Some(()) => message_in(*alloc, &object),
+            None => {
+                drop(object);
+                read_value(*alloc, text, scratch)
+            }
         }
-        let value = value_in(*alloc, text)?;
-        check_object(&value)?;
-        message_in(*alloc, &value)
+    }
+}
+
+/// What a line of text says, or its first fault: by the value that it is, since it is no flat object, or too little memory is there to
+/// tell.
+// Apart, as what is rare: a function blanks at its head the places of all that is inlined in it.
+#[tactic(auto, unfolding(crate::specs::Line::line_says))]
+#[inline(never)]
+fn read_value(
+    alloc: Global,
+    text: &str,
+    scratch: &mut Scratch<Global>,
+) -> Result<Message, WireFault>
+    requires { IsText text.now }
+    ensures { Gives result (line_says text.now) }
+{
+    if !may_be_json(text, scratch) {
+        return Err(WireFault::NotJson);
+    }
+    let value = value_in(alloc, text)?;
+    check_object(&value)?;
+    message_in(alloc, &value)
+}
+
+/// Whether a text may be JSON. What isn't is told by this with no value, which takes more time and memory.
+fn may_be_json(text: &str, scratch: &mut Scratch<Global>) -> bool
+    ensures { result ≡ false → read text.now ≡ None }
+{
+    let Ok(mut reader) = Reader::new(text, scratch) else {
+        return true;
+    };
+    match reader.skip_value(DEEPEST) {
+        Ok(()) => reader.next().is_none(),
+        Err(_) => false,
     }
 }
 
 /// What a line says, or its first fault.
 ///
 /// The faults are those of `WireFault`, in its order; the fields are tried in the order `by`, `do`, and then those of
-/// the word, as `Word::fields` has them. It takes memory for as many bytes as the line has, for a list of the members of
+/// the word, as `fields_of` has them in specs/Word.antt. It takes memory for as many bytes as the line has, for a list of the members of
 /// a flat object, or for the value that another line is, and for the names in it; where that runs out the fault is
 /// `OutOfMemory`. To find a line too long, or not UTF-8, takes none.
 pub fn decode(alloc: Global, line: &[u8]) -> Result<Message, WireFault>
@@ -160,18 +201,38 @@ pub fn word_in<O: Object>(object: &O) -> Result<Word, WireFault>
     }
 }
 
-#[tactic(auto, unfolding(crate::specs::Line::call_in))]
+#[tactic(auto, unfolding(crate::specs::Line::call_in, crate::specs::Line::asked_in))]
 fn call_in<O: Object>(alloc: Global, word: Word, object: &O) -> Result<Call, WireFault>
     ensures { Gives result (call_in word (O.json object.now)) }
 {
-    let fields = word.fields();
+    match word {
+        Word::Register
+        | Word::Duplicate
+        | Word::Edit
+        | Word::Reconcile
+        | Word::Merge
+        | Word::Relocate
+        | Word::Remove
+        | Word::Note
+        | Word::Confirm
+        | Word::Withdraw => Ok(Call::Report(report_in(alloc, word, object)?)),
+        _ => other_call_in(alloc, word, object),
+    }
+}
+
+// A call that most often is no report: apart, as what is rare.
+#[tactic(auto, unfolding(crate::specs::Line::call_in))]
+#[inline(never)]
+fn other_call_in<O: Object>(alloc: Global, word: Word, object: &O) -> Result<Call, WireFault>
+    ensures { Gives result (call_in word (O.json object.now)) }
+{
     match word {
         Word::Found => Ok(Call::Sighting(Sighting::Found {
-            place: place_in(alloc, fields[0], fields[1], object)?,
-            sum: sum_in(alloc, fields[2], object)?,
+            place: place_in(alloc, object)?,
+            sum: sum_in(alloc, Field::Sum, object)?,
         })),
         Word::Missing => Ok(Call::Sighting(Sighting::Missing {
-            place: place_in(alloc, fields[0], fields[1], object)?,
+            place: place_in(alloc, object)?,
         })),
         _ => asked_in(alloc, word, object),
     }
@@ -182,33 +243,32 @@ fn call_in<O: Object>(alloc: Global, word: Word, object: &O) -> Result<Call, Wir
 fn asked_in<O: Object>(alloc: Global, word: Word, object: &O) -> Result<Call, WireFault>
     ensures { Gives result (asked_in word (O.json object.now)) }
 {
-    let fields = word.fields();
     let query = match word {
         Word::Families => Query::Families,
         Word::Board => Query::Board {
-            family: number_in(fields[0], object)?,
+            family: number_in(Field::Family, object)?,
         },
         Word::Stamps => Query::Stamps {
-            family: number_in(fields[0], object)?,
+            family: number_in(Field::Family, object)?,
         },
         Word::Pair => Query::Pair {
-            a: number_in(fields[0], object)?,
-            b: number_in(fields[1], object)?,
+            a: number_in(Field::A, object)?,
+            b: number_in(Field::B, object)?,
         },
         Word::Holdings => Query::Holdings {
-            device: device_in(fields[0], object)?,
-            from: number_or_none(fields[1], object)?,
+            device: device_in(Field::Device, object)?,
+            from: number_or_none(Field::From, object)?,
         },
         Word::At => Query::At {
-            place: place_in(alloc, fields[0], fields[1], object)?,
+            place: place_in(alloc, object)?,
         },
         Word::Status => Query::Status {
-            device: device_or_none(fields[0], object)?,
-            from: number_in(fields[1], object)?,
+            device: device_or_none(Field::Device, object)?,
+            from: number_in(Field::From, object)?,
         },
         Word::Journal => journal_query(
-            number_in(fields[0], object)?,
-            seconds_or_none(fields[1], object)?,
+            number_in(Field::From, object)?,
+            seconds_or_none(Field::Wait, object)?,
         ),
         Word::Counts => Query::Counts,
         _ => return Ok(Call::Report(report_in(alloc, word, object)?)),
@@ -230,23 +290,44 @@ fn journal_query(entry: u64, wait: Option<u64>) -> Query
 pub fn report_in<O: Object>(alloc: Global, word: Word, object: &O) -> Result<Report, WireFault>
     ensures { Gives result (report_in word (O.json object.now)) }
 {
-    let fields = word.fields();
     match word {
-        Word::Register => Ok(Report::Register {
-            place: place_in(alloc, fields[0], fields[1], object)?,
-            sum: sum_or_none(alloc, fields[2], object)?,
-        }),
-        Word::Duplicate => Ok(Report::Duplicate {
-            copy: number_in(fields[0], object)?,
-            place: place_in(alloc, fields[1], fields[2], object)?,
-            sum: sum_or_none(alloc, fields[3], object)?,
-        }),
-        Word::Relocate => Ok(Report::Relocate {
-            copy: number_in(fields[0], object)?,
-            place: place_in(alloc, fields[1], fields[2], object)?,
-        }),
+        Word::Register => register_in(alloc, object),
+        Word::Duplicate => duplicate_in(alloc, object),
+        Word::Relocate => relocate_in(alloc, object),
         _ => numbered_in(alloc, word, object),
     }
+}
+
+// These three are apart, since each report by `report_in` would blank their places.
+#[tactic(auto, unfolding(crate::specs::Line::report_in))]
+fn register_in<O: Object>(alloc: Global, object: &O) -> Result<Report, WireFault>
+    ensures { Gives result (report_in Register (O.json object.now)) }
+{
+    Ok(Report::Register {
+        place: place_in(alloc, object)?,
+        sum: sum_or_none(alloc, Field::Sum, object)?,
+    })
+}
+
+#[tactic(auto, unfolding(crate::specs::Line::report_in))]
+fn duplicate_in<O: Object>(alloc: Global, object: &O) -> Result<Report, WireFault>
+    ensures { Gives result (report_in Duplicate (O.json object.now)) }
+{
+    Ok(Report::Duplicate {
+        copy: number_in(Field::Copy, object)?,
+        place: place_in(alloc, object)?,
+        sum: sum_or_none(alloc, Field::Sum, object)?,
+    })
+}
+
+#[tactic(auto, unfolding(crate::specs::Line::report_in))]
+fn relocate_in<O: Object>(alloc: Global, object: &O) -> Result<Report, WireFault>
+    ensures { Gives result (report_in Relocate (O.json object.now)) }
+{
+    Ok(Report::Relocate {
+        copy: number_in(Field::Copy, object)?,
+        place: place_in(alloc, object)?,
+    })
 }
 
 // A report that has no place.
@@ -254,51 +335,45 @@ pub fn report_in<O: Object>(alloc: Global, word: Word, object: &O) -> Result<Rep
 fn numbered_in<O: Object>(alloc: Global, word: Word, object: &O) -> Result<Report, WireFault>
     ensures { Gives result (numbered_in word (O.json object.now)) }
 {
-    let fields = word.fields();
     match word {
         Word::Edit => Ok(Report::Edit {
-            copy: number_in(fields[0], object)?,
-            sum: sum_or_none(alloc, fields[1], object)?,
+            copy: number_in(Field::Copy, object)?,
+            sum: sum_or_none(alloc, Field::Sum, object)?,
         }),
         Word::Reconcile => Ok(Report::Reconcile {
-            a: number_in(fields[0], object)?,
-            b: number_in(fields[1], object)?,
-            sum: sum_or_none(alloc, fields[2], object)?,
+            a: number_in(Field::A, object)?,
+            b: number_in(Field::B, object)?,
+            sum: sum_or_none(alloc, Field::Sum, object)?,
         }),
         Word::Merge => Ok(Report::Merge {
-            a: number_in(fields[0], object)?,
-            b: number_in(fields[1], object)?,
-            sum: sum_or_none(alloc, fields[2], object)?,
+            a: number_in(Field::A, object)?,
+            b: number_in(Field::B, object)?,
+            sum: sum_or_none(alloc, Field::Sum, object)?,
         }),
         Word::Remove => Ok(Report::Remove {
-            copy: number_in(fields[0], object)?,
-            heir: number_or_none(fields[1], object)?,
+            copy: number_in(Field::Copy, object)?,
+            heir: number_or_none(Field::Heir, object)?,
         }),
         Word::Note => Ok(Report::Note {
-            copy: number_in(fields[0], object)?,
-            sum: sum_in(alloc, fields[1], object)?,
+            copy: number_in(Field::Copy, object)?,
+            sum: sum_in(alloc, Field::Sum, object)?,
         }),
         Word::Confirm => Ok(Report::Confirm {
-            entry: number_in(fields[0], object)?,
+            entry: number_in(Field::Entry, object)?,
         }),
         Word::Withdraw => Ok(Report::Withdraw {
-            entry: number_in(fields[0], object)?,
+            entry: number_in(Field::Entry, object)?,
         }),
         _ => Err(WireFault::BadField(Field::Do)),
     }
 }
 
 #[tactic(auto, unfolding(crate::specs::Line::place_in))]
-fn place_in<O: Object>(
-    alloc: Global,
-    device: Field,
-    path: Field,
-    object: &O,
-) -> Result<Place, WireFault>
-    ensures { Gives result (place_in device path (O.json object.now)) }
+fn place_in<O: Object>(alloc: Global, object: &O) -> Result<Place, WireFault>
+    ensures { Gives result (place_in Device Path (O.json object.now)) }
 {
-    let device = device_in(device, object)?;
-    let path = path_in(alloc, path, object)?;
+    let device = device_in(Field::Device, object)?;
+    let path = path_in(alloc, Field::Path, object)?;
     Ok(Place { device, path })
 }
 

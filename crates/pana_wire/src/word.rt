@@ -1,8 +1,7 @@
 ghost use Rattle.std.specs.Prelude.{◌≡◌};
-ghost use Rattle.pana_wire.specs.Word.{word_name, fields_of, word_of};
+ghost use Rattle.pana_wire.specs.Word.{word_name, word_of};
 ghost use Rattle.pana_wire.specs.Report.{kind_word};
 
-use crate::field::Field;
 use pana_journal::ReportKind;
 
 /// The word in a line for what is asked.
@@ -58,35 +57,6 @@ impl Word {
             Word::Status => "status",
             Word::Journal => "journal",
             Word::Counts => "counts",
-        }
-    }
-
-    /// The fields of the word beside `by` and `do`, in the order in which they are tried. Takes no memory.
-    pub fn fields(self) -> &'static [Field]
-        ensures { result.now ≡ fields_of self }
-    {
-        match self {
-            Word::Register => &[Field::Device, Field::Path, Field::Sum],
-            Word::Duplicate => &[Field::Copy, Field::Device, Field::Path, Field::Sum],
-            Word::Edit => &[Field::Copy, Field::Sum],
-            Word::Reconcile => &[Field::A, Field::B, Field::Sum],
-            Word::Merge => &[Field::A, Field::B, Field::Sum],
-            Word::Relocate => &[Field::Copy, Field::Device, Field::Path],
-            Word::Remove => &[Field::Copy, Field::Heir],
-            Word::Note => &[Field::Copy, Field::Sum],
-            Word::Confirm => &[Field::Entry],
-            Word::Withdraw => &[Field::Entry],
-            Word::Found => &[Field::Device, Field::Path, Field::Sum],
-            Word::Missing => &[Field::Device, Field::Path],
-            Word::Families => &[],
-            Word::Board => &[Field::Family],
-            Word::Stamps => &[Field::Family],
-            Word::Pair => &[Field::A, Field::B],
-            Word::Holdings => &[Field::Device, Field::From],
-            Word::At => &[Field::Device, Field::Path],
-            Word::Status => &[Field::Device, Field::From],
-            Word::Journal => &[Field::From, Field::Wait],
-            Word::Counts => &[],
         }
     }
 }

@@ -1,16 +1,14 @@
-ghost use Rattle.std.specs.Prelude.{◌≡◌, IfOk, [], string_bytes};
+ghost use Rattle.std.specs.Prelude.{◌≡◌, ℕ, ◌++◌, IfOk, [], codes, decimal, string_bytes};
 ghost use Rattle.std.specs.Str.{IsUtf8};
-ghost use Rattle.pana_calls.specs.declared.reply.Reply.TheVariants.{Did, Journal, Pair, Refused};
+ghost use Rattle.pana_calls.specs.declared.reply.Reply.TheVariants.{Did, Journal, Known, Pair, Refused};
 ghost use Rattle.pana_wire.specs.Dump.{IsReadBack, entries_text};
 ghost use Rattle.pana_wire.specs.Answer.{answer_text};
 ghost use Rattle.pana_wire.specs.Reply.{reply_text};
 
 use crate::entry_writing::write_entries;
 use crate::json_writing::{
-    begun_text, first_room, list_text, member_text, text_of, write_number, write_number_if_given,
-    write_text, written_bytes,
+    begun_text, first_room, known_text, list_text, member_text, text_around, text_of, written_bytes,
 };
-use crate::word::kind_word;
 use pana_calls::{Answer, Cause, Reply};
 use pana_event::Rel;
 use pana_journal::{Entry, ReportKind};
@@ -40,13 +38,13 @@ fn encode_in(room: Vec<u8>, reply: &Reply) -> Result<Vec<u8>, AllocError>
     ensures utf8 { IfOk result (λ bytes. IsUtf8 bytes.items) }
 {
     match reply {
-        Reply::Done { entry } => member_text(room, "done", entry),
-        Reply::Did { kind, entry } => did_text(room, *kind, *entry),
-        Reply::Known { copy } => member_text(room, "known", copy),
+        Reply::Done { entry } => text_around(room, "{\"done\":", *entry, "}"),
+        Reply::Did { kind, entry } => text_around(room, did_front(*kind), *entry, "}"),
+        Reply::Known { copy } => copy_text(room, *copy),
         Reply::Families(rows) => list_text(room, "families", rows.as_slice()),
         Reply::Board(board) => member_text(room, "board", board),
         Reply::Stamps(stamps) => list_text(room, "stamps", stamps.as_slice()),
-        Reply::Pair(rel) => pair_text(room, *rel),
+        Reply::Pair(rel) => known_text(room, pair_answer(*rel)),
         Reply::Holdings(holdings) => list_text(room, "holdings", holdings.as_slice()),
         Reply::At(standing) => member_text(room, "at", standing),
         Reply::Status(rows) => list_text(room, "status", rows.as_slice()),
@@ -89,43 +87,77 @@ pub(crate) fn encode_answer_in(
     }
 }
 
-fn did_text(room: Vec<u8>, kind: ReportKind, entry: u64) -> Result<Vec<u8>, AllocError>
-    requires { room.items ≡ [] }
-    ensures text { IfOk result (λ bytes. bytes.items ≡ reply_text (Did kind entry)) }
-    ensures utf8 { IfOk result (λ bytes. IsUtf8 bytes.items) }
+// What stands before the number in the line that answers a sighting, by the kind of the report that was made.
+#[tactic(auto, unfolding(crate::specs::Reply::reply_text, crate::specs::Reply::reply_data, json::specs::Print::escape_byte))]
+fn did_front(kind: ReportKind) -> &'static str
+    ensures { (entry : ℕ) → reply_text (Did kind entry) ≡ result.now ++ (decimal entry ++ codes "}") }
 {
-    let mut out = begun_text(room);
-    out.begin_object()?;
-    write_text(&mut out, "did", kind_word(kind).name())?;
-    write_number(&mut out, "done", entry)?;
-    out.end_object()?;
-    Ok(written_bytes(out))
+    match kind {
+        ReportKind::Register => "{\"did\":\"register\",\"done\":",
+        ReportKind::Duplicate => "{\"did\":\"duplicate\",\"done\":",
+        ReportKind::Edit => "{\"did\":\"edit\",\"done\":",
+        ReportKind::Reconcile => "{\"did\":\"reconcile\",\"done\":",
+        ReportKind::Merge => "{\"did\":\"merge\",\"done\":",
+        ReportKind::Relocate => "{\"did\":\"relocate\",\"done\":",
+        ReportKind::Remove => "{\"did\":\"remove\",\"done\":",
+        ReportKind::Note => "{\"did\":\"note\",\"done\":",
+        ReportKind::Confirm => "{\"did\":\"confirm\",\"done\":",
+        ReportKind::Withdraw => "{\"did\":\"withdraw\",\"done\":",
+    }
 }
 
-fn pair_text(room: Vec<u8>, rel: Rel) -> Result<Vec<u8>, AllocError>
-    requires { room.items ≡ [] }
-    ensures text { IfOk result (λ bytes. bytes.items ≡ reply_text (Pair rel)) }
-    ensures utf8 { IfOk result (λ bytes. IsUtf8 bytes.items) }
+// The line that answers how two copies relate.
+#[tactic(auto, unfolding(crate::specs::Reply::reply_text, crate::specs::Reply::reply_data, json::specs::Print::escape_byte))]
+fn pair_answer(rel: Rel) -> &'static str
+    ensures { result.now ≡ reply_text (Pair rel) }
 {
-    let mut out = begun_text(room);
-    out.begin_object()?;
-    write_text(&mut out, "pair", rel.name())?;
-    out.end_object()?;
-    Ok(written_bytes(out))
+    match rel {
+        Rel::Equal => "{\"pair\":\"Equal\"}",
+        Rel::Older => "{\"pair\":\"Older\"}",
+        Rel::Newer => "{\"pair\":\"Newer\"}",
+        Rel::Conflict => "{\"pair\":\"Conflict\"}",
+    }
 }
 
+#[tactic(auto, unfolding(crate::specs::Reply::reply_text, crate::specs::Reply::reply_data, json::specs::Print::escape_byte))]
+fn copy_text(room: Vec<u8>, copy: Option<u64>) -> Result<Vec<u8>, AllocError>
+    requires { room.items ≡ [] }
+    ensures text { IfOk result (λ bytes. bytes.items ≡ reply_text (Known copy)) }
+    ensures utf8 { IfOk result (λ bytes. IsUtf8 bytes.items) }
+{
+    match copy {
+        Some(copy) => text_around(room, "{\"known\":", copy, "}"),
+        None => known_text(room, "{\"known\":null}"),
+    }
+}
+
+#[tactic(auto, unfolding(crate::specs::Reply::reply_text, crate::specs::Reply::reply_data, crate::specs::Reply::refused_data, json::specs::Print::escape_byte))]
 fn refused_text(room: Vec<u8>, cause: &Cause) -> Result<Vec<u8>, AllocError>
     requires { room.items ≡ [] }
     ensures text { IfOk result (λ bytes. bytes.items ≡ reply_text (Refused cause.now)) }
     ensures utf8 { IfOk result (λ bytes. IsUtf8 bytes.items) }
 {
-    let mut out = begun_text(room);
-    out.begin_object()?;
-    write_number(&mut out, "code", u64::from(cause.code()))?;
-    write_number_if_given(&mut out, "copy", cause.copy())?;
-    write_text(&mut out, "refused", cause.name())?;
-    out.end_object()?;
-    Ok(written_bytes(out))
+    let text = match cause {
+        Cause::UnknownCopy(copy) => {
+            let behind = ",\"refused\":\"UnknownCopy\"}";
+            return text_around(room, "{\"code\":2,\"copy\":", *copy, behind);
+        }
+        Cause::PlaceTaken(copy) => {
+            let behind = ",\"refused\":\"PlaceTaken\"}";
+            return text_around(room, "{\"code\":6,\"copy\":", *copy, behind);
+        }
+        Cause::JournalFull => "{\"code\":1,\"refused\":\"JournalFull\"}",
+        Cause::SameCopy => "{\"code\":3,\"refused\":\"SameCopy\"}",
+        Cause::OtherFamily => "{\"code\":4,\"refused\":\"OtherFamily\"}",
+        Cause::FamilyFull => "{\"code\":7,\"refused\":\"FamilyFull\"}",
+        Cause::TooDeep => "{\"code\":8,\"refused\":\"TooDeep\"}",
+        Cause::OutOfMemory => "{\"code\":9,\"refused\":\"OutOfMemory\"}",
+        Cause::UnknownEntry => "{\"code\":10,\"refused\":\"UnknownEntry\"}",
+        Cause::NotYours => "{\"code\":11,\"refused\":\"NotYours\"}",
+        Cause::Settled => "{\"code\":12,\"refused\":\"Settled\"}",
+        Cause::UnknownFamily => "{\"code\":13,\"refused\":\"UnknownFamily\"}",
+    };
+    known_text(room, text)
 }
 
 fn journal_text(room: Vec<u8>, entries: &[Entry]) -> Result<Vec<u8>, AllocError>

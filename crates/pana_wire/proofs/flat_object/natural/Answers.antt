@@ -1,13 +1,12 @@
 -- It is an integer of 64 bits, with no sign.
-use Rattle.std.proofs.Common.{◌≡◌, ◌==◌, ◌∙◌, List, ℕ, get_or, false, refl, ap, sym}
-use Rattle.fast_float.specs.Text.{scan}
+use Rattle.std.proofs.Common.{◌∙◌, ap, subst, sym}
 use Rattle.json.specs.Print.{IsNumber}
+use Rattle.serde_json.specs.Read.{number_of}
 use Rattle.pana_wire.proofs.FlatObject.{natural_is}
 use Rattle.pana_wire.proofs.flat_object.natural.Goals as goal
 
-pub returns : goal.returns
-returns c =
-    let same = c.as_bytes-bytes.ensures.value in
-    let plain : (get_or c.args.digits.now 0 0 == 45) ≡ false = ap (λ (l : List ℕ). get_or l 0 0 == 45) (sym same) ∙ sym c.has_minus.ensures ∙ c.if-has_minus.false in
-    let written : IsNumber c.args.digits.now = c.if-not-is_number.ensures.0 refl in
-    natural_is c.args.digits.now _ c.to_u64.result c.to_u64.ensures (c.scan.ensures.parts ∙ ap scan same) plain written
+pub returns-in-Ok : goal.returns-in-Ok
+returns-in-Ok c =
+    let same = c.as_bytes.ensures.value in
+    let parsed = c.in-Ok.ensures in
+    ap number_of (sym same) ∙ natural_is c.as_bytes.result.now c.in-Ok.number (subst IsNumber (sym same) c.requires) parsed.0.0 parsed.0.1 parsed.1

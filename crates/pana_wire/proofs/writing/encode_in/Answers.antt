@@ -1,27 +1,19 @@
 -- Each reply is an object with the members that were written.
-use Rattle.std.specs.Prelude.{ℕ, Option, Some, None}
+use Rattle.std.specs.Prelude.{Option, Some, None}
 use Rattle.std.proofs.Common.{◌≡◌, refl}
+use Rattle.json.specs.Print.{escape_byte}
 use Rattle.pana_calls.specs.declared.standing.CopyStanding.{CopyStanding}
 use Rattle.pana_wire.specs.inner.Pieces.{data_or_null}
-use Rattle.pana_wire.specs.Report.{number_data}
-use Rattle.pana_wire.specs.Reply.{at_data, families_data, holdings_data, number_or_null, reply_data, reply_text, stamps_data, standing_data, status_data, with_sum}
+use Rattle.pana_wire.specs.Reply.{at_data, families_data, holdings_data, reply_data, reply_text, stamps_data, standing_data, status_data, with_sum}
 use Rattle.pana_wire.proofs.writing.encode_in.Goals as goal
-
-number_same : (n : Option ℕ) → data_or_null number_data n ≡ number_or_null n
-number_same None = refl
-number_same (Some n) = refl
 
 standing_same : (standing : Option CopyStanding) → data_or_null (λ s. with_sum s.sum (standing_data s)) standing ≡ at_data standing
 standing_same None = refl
 standing_same (Some standing) = refl
 
 pub returns-in-Done-clause-text : goal.returns-in-Done-clause-text
-unfolding reply_text reply_data
-returns-in-Done-clause-text c = rw c.in-Done.is c.member_text.ensures.text
-
-pub returns-in-Known-clause-text : goal.returns-in-Known-clause-text
-unfolding reply_text reply_data
-returns-in-Known-clause-text c = rw (c.in-Known.is, ← number_same c.in-Known.copy) c.member_text-in-Known.ensures.text
+unfolding reply_text reply_data escape_byte
+returns-in-Done-clause-text c = rw c.in-Done.is c.text_around.ensures.text
 
 pub returns-in-Families-clause-text : goal.returns-in-Families-clause-text
 unfolding reply_text reply_data families_data
@@ -29,7 +21,7 @@ returns-in-Families-clause-text c = rw (c.in-Families.is, ← c.as_slice.ensures
 
 pub returns-in-Board-clause-text : goal.returns-in-Board-clause-text
 unfolding reply_text reply_data
-returns-in-Board-clause-text c = rw c.in-Board.is c.member_text-in-Board.ensures.text
+returns-in-Board-clause-text c = rw c.in-Board.is c.member_text.ensures.text
 
 pub returns-in-Stamps-clause-text : goal.returns-in-Stamps-clause-text
 unfolding reply_text reply_data stamps_data
