@@ -65,7 +65,12 @@ fn copies_on_a_device_are_found_from_a_number_on(rt: HostRuntime) -> Result<(), 
     let alloc = rt.alloc();
     let mut table = CopyTable::new(alloc);
     // The byte by which copies of a device are found is the same for "an" and "iv".
-    let copies = [(7, "an", "a"), (2, "iv", "b"), (5, "an", "c"), (3, "an", "d")];
+    let copies = [
+        (7, "an", "a"),
+        (2, "iv", "b"),
+        (5, "an", "c"),
+        (3, "an", "d"),
+    ];
     for (copy, device, name) in copies {
         table.reserve()?;
         if table.get(copy).is_none() && table.at(&file(alloc, device, name)?).is_none() {
@@ -76,8 +81,14 @@ fn copies_on_a_device_are_found_from_a_number_on(rt: HostRuntime) -> Result<(), 
         table.remove(7);
     }
     let device = DeviceName::new("an")?;
-    assert_eq!(rt; table.on_device(alloc, &device, 0)?.as_slice(), [3, 5].as_slice());
-    assert_eq!(rt; table.on_device(alloc, &device, 4)?.as_slice(), [5].as_slice());
+    assert_eq!(rt;
+        table.on_device(alloc, &device, 0)?.as_slice(),
+        [3, 5].as_slice()
+    );
+    assert_eq!(rt;
+        table.on_device(alloc, &device, 4)?.as_slice(),
+        [5].as_slice()
+    );
     let other = DeviceName::new("cy")?;
     assert!(rt; table.on_device(alloc, &other, 0)?.is_empty());
     Ok(())

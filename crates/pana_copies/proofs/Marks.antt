@@ -6,9 +6,6 @@ use Rattle.std.proofs.lemmas.Option.{slice_get-map}
 use Rattle.pana_copies.specs.declared.place.Place.{Place}
 use Rattle.pana_copies.specs.inner.Marks.{AreMarks, mark_of}
 
-mark_at : Place → ℕ
-mark_at place = mark_of place.device
-
 -- one place more
 pub marks_more : (marks : List ℕ) (places : List Place) (place : Place) → AreMarks marks places → AreMarks (marks ++ mark_of place.device ∷ []) (places ++ place ∷ [])
 marks_more marks places place are = ap (λ l. l ++ mark_of place.device ∷ []) are ∙ sym (map-append (λ (p : Place). mark_of p.device) places (place ∷ []))

@@ -95,7 +95,7 @@ impl LineReader {
 }
 
 /// What a line of text says, or its first fault: by the value that it is, since it is no flat object, or too little memory is there to
-/// tell.
+/// find out.
 // Apart, as what is rare: a function blanks at its head the places of all that is inlined in it.
 #[tactic(auto, unfolding(crate::specs::Line::line_says))]
 #[inline(never)]
@@ -115,7 +115,7 @@ fn read_value(
     message_in(alloc, &value)
 }
 
-/// Whether a text may be JSON. What isn't is told by this with no value, which takes more time and memory.
+/// Whether a text may be JSON. It makes no value, which takes more time and memory.
 fn may_be_json(text: &str, scratch: &mut Scratch<Global>) -> bool
     ensures { result ≡ false → read text.now ≡ None }
 {

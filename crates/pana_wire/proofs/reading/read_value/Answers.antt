@@ -1,4 +1,4 @@
--- What is no JSON is told so.
+-- What is no JSON has that fault.
 use Rattle.std.proofs.Common.{◌≡◌, None, Ok, refl}
 use Rattle.serde_json.specs.Read.{read}
 use Rattle.pana_wire.specs.Line.{data_in, line_says, text_in}
