@@ -2,23 +2,33 @@ use pana_copies::{CopyPath, CopyTable, DeviceName, NameFault, Place};
 use std::alloc::Global;
 use std::test::Fail;
 
-/// The place of the notes on this device.
-fn notes(alloc: Global, device: &str) -> Result<Place, NameFault> {
+/// The place of a file with this name on this device.
+fn file(alloc: Global, device: &str, name: &str) -> Result<Place, NameFault> {
     Ok(Place {
         device: DeviceName::new(device)?,
-        path: CopyPath::new(alloc, "work/notes.txt")?,
+        path: CopyPath::new(alloc, name)?,
     })
 }
 
-/// Keeps a copy on a device, unless it is kept already or its place is another's: whether it did.
-fn keep(alloc: Global, table: &mut CopyTable, copy: u64, device: &str) -> Result<bool, Fail> {
-    let place = notes(alloc, device)?;
+/// The place of the notes on this device.
+fn notes(alloc: Global, device: &str) -> Result<Place, NameFault> {
+    file(alloc, device, "work/notes.txt")
+}
+
+/// Keeps a copy at a place, unless it is kept already or the place is another's: whether it did.
+fn keep_at(table: &mut CopyTable, copy: u64, place: Place) -> Result<bool, Fail> {
     if table.get(copy).is_some() || table.at(&place).is_some() {
         return Ok(false);
     }
     table.reserve()?;
     table.insert(copy, 1, place);
     Ok(true)
+}
+
+/// Keeps a copy of the notes on a device so.
+fn keep(alloc: Global, table: &mut CopyTable, copy: u64, device: &str) -> Result<bool, Fail> {
+    let place = notes(alloc, device)?;
+    keep_at(table, copy, place)
 }
 
 #[test]
@@ -52,30 +62,19 @@ fn copies_at_one_path_are_found_on_each_device(rt: HostRuntime) -> Result<(), Fa
     Ok(())
 }
 
-/// The place of a file with this name on this device.
-fn file(alloc: Global, device: &str, name: &str) -> Result<Place, NameFault> {
-    Ok(Place {
-        device: DeviceName::new(device)?,
-        path: CopyPath::new(alloc, name)?,
-    })
-}
-
 #[test]
 fn copies_on_a_device_are_found_from_a_number_on(rt: HostRuntime) -> Result<(), Fail> {
     let alloc = rt.alloc();
     let mut table = CopyTable::new(alloc);
     // The byte by which copies of a device are found is the same for "an" and "iv".
-    let copies = [
+    for (copy, device, name) in [
         (7, "an", "a"),
         (2, "iv", "b"),
         (5, "an", "c"),
         (3, "an", "d"),
-    ];
-    for (copy, device, name) in copies {
-        table.reserve()?;
-        if table.get(copy).is_none() && table.at(&file(alloc, device, name)?).is_none() {
-            table.insert(copy, copy, file(alloc, device, name)?);
-        }
+    ] {
+        let place = file(alloc, device, name)?;
+        assert!(rt; keep_at(&mut table, copy, place)?);
     }
     if table.get(7).is_some() {
         table.remove(7);
