@@ -21,6 +21,7 @@ pub mod Bequests
 pub mod Changes
 pub mod Keeps
 pub mod Planned
+pub mod Parted
 pub mod Exacts
 pub mod Followed
 pub mod United

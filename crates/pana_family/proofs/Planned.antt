@@ -30,7 +30,7 @@ pub touch_exact : (rows : List StampRow) (c n : ℕ) → renewed c (with_touch n
 touch_exact rows c n = renewed_made c (with_touch n) (λ q. restamped q.stamp n q) rows (λ q i named. refl)
 
 -- a row takes that of its number
-put_there : (low : ℕ) (x r : StampRow) (g : StampRow → StampRow) (rows : List StampRow) → IsRising low rows → In r rows → r.copy ≡ x.copy → g r ≡ x → put_back x rows ≡ filter_map (λ q. Some (cond (q.copy == x.copy) (g q) q)) rows
+pub put_there : (low : ℕ) (x r : StampRow) (g : StampRow → StampRow) (rows : List StampRow) → IsRising low rows → In r rows → r.copy ≡ x.copy → g r ≡ x → put_back x rows ≡ filter_map (λ q. Some (cond (q.copy == x.copy) (g q) q)) rows
 put_there low x r g [] up i named is = absurd i
 put_there low x r g (q ∷ rows) up i named is =
     let new : List StampRow = filter_map (λ p. Some (cond (p.copy == x.copy) (g p) p)) rows in

@@ -24,6 +24,7 @@ mod reporting;
 mod row;
 mod searching;
 mod settling;
+mod sharing;
 mod stamps;
 mod uniting;
 

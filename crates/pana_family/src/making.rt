@@ -2,7 +2,7 @@
 ghost use Rattle.std.specs.Prelude.{◌≡◌, ◌+◌, ◌^◌, ◌<◌, false, IfOk};
 ghost use Rattle.pana_id.specs.Id.{is_zero, is_single};
 ghost use Rattle.pana_event.specs.Event.{greatest};
-ghost use Rattle.pana_family.specs.{Change.with_event, inner.Making.CanJoin};
+ghost use Rattle.pana_family.specs.{Change.with_event, Rows.stamp, inner.Making.CanJoin};
 ghost use Rattle.pana_family.specs.After.{first_part, joined_stamp, second_part, updated, updated_stamp};
 
 use crate::row::StampRow;
@@ -54,6 +54,35 @@ pub fn halves(alloc: Global, stamp: &Stamp) -> Result<(Stamp, Stamp), AllocError
         Ok((first, second)) => Ok((first, second)),
         Err(IdFault::TooDeep) => unreachable!(),
         Err(IdFault::OutOfMemory) => Err(AllocError),
+    }
+}
+
+/// The same, of a stamp that is divided in place: no part of its id is copied.
+pub fn into_halves(alloc: Global, stamp: Stamp) -> Result<(Stamp, Stamp), AllocError>
+    requires { is_single stamp.id 256 ≡ false }
+    ensures { IfOk result (λ two. two ≡ (first_part stamp, second_part stamp)) }
+{
+    let mut first = stamp;
+    match first.split_off(alloc) {
+        Ok(id) => {
+            let second = stamp_of(id, first.event_tree())?;
+            Ok((first, second))
+        }
+        Err(IdFault::TooDeep) => unreachable!(),
+        Err(IdFault::OutOfMemory) => Err(AllocError),
+    }
+}
+
+/// The stamp of this id that knows the event.
+pub fn stamp_of(id: IdTree, event: &EventTree) -> Result<Stamp, AllocError>
+    ensures { IfOk result (λ new. new ≡ stamp id event.now) }
+{
+    match event.share() {
+        Ok(event) => Ok(Stamp::new(id, event)),
+        Err(fault) => {
+            drop(id);
+            Err(fault)
+        }
     }
 }
 

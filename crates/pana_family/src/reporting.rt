@@ -8,11 +8,12 @@ ghost use Rattle.pana_family.specs.{Rows.row_in, Rows.AreBefore, Change.after, K
 ghost use Rattle.pana_family.specs.declared.report.FamilyReport.TheVariants.{Duplicate, Edit, Merge, Reconcile, Remove};
 
 use crate::change::{Change, Exchange};
-use crate::making::{halves, joined_stamp, updated_event, updated_stamp};
+use crate::making::{halves, into_halves, joined_stamp, updated_event, updated_stamp};
 use crate::report::FamilyReport;
 use crate::row::StampRow;
 use crate::searching::row_of;
 use crate::settling::{Plan, parcel_row, restamped, settle_change};
+use crate::sharing::{are_copies, parts_change};
 use crate::stamps::all_valid;
 use pana_stamp::Stamp;
 use smallvec::SmallVec;
@@ -80,13 +81,16 @@ fn share_change(
     entry: u64,
     a: u64,
     b: u64,
-    whole: &Stamp,
+    whole: Stamp,
 ) -> Result<Change, AllocError>
     requires ready { IsReady entry (Reconcile a b) rows.now }
-    requires whole { whole.now.id ≡ (joined_stamp (row_in rows.now a).stamp (row_in rows.now b).stamp).id }
-    ensures { IfOk result (λ change. after change rows.now ≡ filter_map (shared entry a b (first_part whole.now) (second_part whole.now) rows.now) rows.now ++ []) }
+    requires whole { whole.id ≡ (joined_stamp (row_in rows.now a).stamp (row_in rows.now b).stamp).id }
+    ensures { IfOk result (λ change. after change rows.now ≡ filter_map (shared entry a b (first_part whole) (second_part whole) rows.now) rows.now ++ []) }
 {
-    let (first, second) = halves(alloc, whole)?;
+    let (first, second) = into_halves(alloc, whole)?;
+    if are_copies(rows) {
+        return parts_change(alloc, rows, entry, a, b, first, second);
+    }
     let plan = Plan::Share(a, b, first, second);
     settle_change(alloc, rows, entry, plan, None)
 }
@@ -103,9 +107,7 @@ fn reconcile_change(
     ensures { IfOk result (λ change. after change rows.now ≡ reported_rows entry (Reconcile a b) rows.now) }
 {
     let whole = both_stamp(alloc, rows, entry, a, b)?;
-    let change = share_change(alloc, rows, entry, a, b, &whole);
-    drop(whole);
-    change
+    share_change(alloc, rows, entry, a, b, whole)
 }
 
 /// Two copies learn what either knows, and an update.
@@ -121,9 +123,7 @@ fn merge_change(
 {
     let both = both_stamp(alloc, rows, entry, a, b)?;
     let whole = updated_stamp(alloc, both)?;
-    let change = share_change(alloc, rows, entry, a, b, &whole);
-    drop(whole);
-    change
+    share_change(alloc, rows, entry, a, b, whole)
 }
 
 /// The parcel that a removed copy leaves to its heir, with the entry as its number, unless the heir knows all that it does.

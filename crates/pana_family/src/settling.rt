@@ -3,13 +3,13 @@ ghost use Rattle.std.specs.Prelude.{◌≡◌, ◌++◌, ℕ, true, List, Some, 
 ghost use Rattle.std.specs.Option.{option_to_list};
 ghost use Rattle.pana_id.specs.Id.{sum_of, SharesNoPoint};
 ghost use Rattle.pana_family.specs.declared.row.StampRow.{StampRow as OfRow};
-ghost use Rattle.pana_family.specs.{Rows.stamp, Rows.with_ids, Rows.AreBefore, Rows.AreSound, Table.In, Kept.IsKept, Change.after, Change.exchanged_all};
+ghost use Rattle.pana_family.specs.{Rows.with_ids, Rows.AreBefore, Rows.AreSound, Table.In, Kept.IsKept, Change.after, Change.exchanged_all};
 ghost use Rattle.pana_family.specs.After.{bequeathed, ends, is_bound, lost, restamped, settled, shared};
 ghost use Rattle.pana_family.specs.inner.Making.{CanGather, CanPlan, left_of, passed_row, planned};
 ghost use Rattle.pana_family.specs.inner.Exchanging.{AddsPlanned, came_behind};
 
 use crate::change::{Change, Exchange};
-use crate::making::copy_of;
+use crate::making::{copy_of, stamp_of};
 use crate::row::StampRow;
 use crate::searching::{is_copy, is_held};
 use pana_event::EventTree;
@@ -101,19 +101,6 @@ pub fn restamped(row: &StampRow, stamp: Stamp, touch: u64) -> StampRow
     }
 }
 
-/// The stamp of this id that knows the event.
-fn stamp_of(alloc: Global, id: IdTree, event: &EventTree) -> Result<Stamp, AllocError>
-    ensures { IfOk result (λ new. new ≡ stamp id event.now) }
-{
-    match event.share() {
-        Ok(event) => Ok(Stamp::new(id, event)),
-        Err(fault) => {
-            drop(id);
-            Err(fault)
-        }
-    }
-}
-
 /// What becomes of a copy's row that has this stamp and is settled among these rows.
 fn settled_fate(
     alloc: Global,
@@ -129,7 +116,7 @@ fn settled_fate(
     ensures { IfOk result (λ fate. left_of row.now fate ≡ Some (settled from rows.now stamp.now touch row.now)) }
 {
     let id = gathered(alloc, rows, from, row.copy, stamp)?;
-    let new = stamp_of(alloc, id, stamp.event_tree())?;
+    let new = stamp_of(id, stamp.event_tree())?;
     Ok(Fate::Becomes(restamped(row, new, touch)))
 }
 
@@ -342,7 +329,7 @@ pub fn parcel_row(
     ensures { IfOk result (λ parcel. parcel ≡ record { copy = number; holder = Some heir; stamp = row.now.stamp; touch = touch }) }
 {
     let id = copy_of(alloc, row.stamp.id())?;
-    let stamp = stamp_of(alloc, id, row.stamp.event_tree())?;
+    let stamp = stamp_of(id, row.stamp.event_tree())?;
     Ok(StampRow {
         copy: number,
         holder: Some(heir),

@@ -1,5 +1,5 @@
 -- Entries that are kept by lines, lists of names and of other reports.
-use Rattle.std.specs.Prelude.{◌≡◌, ℕ, zero, suc, ◌+◌, ◌-◌, ◌==◌, ◌<◌, List, [], ◌∷◌, ◌++◌, if◌then◌else◌, length, get_or, Option, Some, None, slice_get, option_map, unwrap_or, take, drop}
+use Rattle.std.specs.Prelude.{◌≡◌, ℕ, zero, suc, ◌+◌, ◌-◌, ◌==◌, ◌<◌, ◌≤◌, List, [], ◌∷◌, ◌++◌, if◌then◌else◌, length, get_or, Option, Some, None, slice_get, option_map, unwrap_or, take, drop}
 use Rattle.std.proofs.Common.{refl, ap, arith, sym, ◌∙◌, subst}
 use Rattle.std.proofs.lemmas.Bool.Decides.{nat_tests}
 use Rattle.std.proofs.lemmas.Option.{unwrap_or-slice_get}
@@ -41,10 +41,8 @@ pub keeps_or : {X : Type 0} (xs ys : List X) (i : ℕ) (d : X) → Keeps xs ys �
 keeps_or xs ys i d keeps within = sym (unwrap_or-slice_get ys i d) ∙ ap (λ o. unwrap_or o d) (keeps i within) ∙ unwrap_or-slice_get xs i d
 
 pub report_keeps : (others more : List Report) (kept : Kept) → Keeps others more → IsThere (length others) kept → report_kept more kept ≡ report_kept others kept
-report_keeps others more (kinds.Edit copy) keeps there = refl
-report_keeps others more (kinds.Reconcile a b) keeps there = refl
-report_keeps others more (kinds.Merge a b) keeps there = refl
 report_keeps others more (kinds.Other index) keeps there = keeps_or others more index (reports.Confirm 0) keeps there
+report_keeps others more _ keeps there = refl
 
 there_tail : (names : List (List ℕ)) (others : List Report) (line : Line) (lines : List Line) → AreThere names others (line ∷ lines) → AreThere names others lines
 there_tail names others line lines there i other at = there (suc i) other at
@@ -96,6 +94,21 @@ take_next {X = X} (y ∷ xs) (suc m) j x at =
 pub there_same : (names all : List (List ℕ)) (others more : List Report) (lines copies : List Line) → all ≡ names → more ≡ others → copies ≡ lines → AreThere names others lines → AreThere all more copies
 there_same names all others more lines copies named few same there =
     subst (λ n. AreThere n more copies) (sym named) (subst (λ o. AreThere names o copies) (sym few) (subst (λ l. AreThere names others l) (sym same) there))
+
+there_later : (n m : ℕ) (kept : Kept) → n ≤ m → IsThere n kept → IsThere m kept
+there_later n m (kinds.Other index) more there = omega (arith, more, there)
+there_later n m _ more there = there
+
+-- one line more, whose name and report are there
+pub there_pushed : (names all : List (List ℕ)) (others more : List Report) (lines : List Line) (line : Line)
+    → length names ≤ length all → length others ≤ length more → AreThere names others lines → line.by < length all → IsThere (length more) line.report
+    → AreThere all more (lines ++ line ∷ [])
+there_pushed names all others more [] line longer most there by report zero it at = let same : line ≡ it = cc at in subst (λ l. (l.by < length all) × IsThere (length more) l.report) same (by, report)
+there_pushed names all others more [] line longer most there by report (suc i) it at = absurd (cc at)
+there_pushed names all others more (first ∷ lines) line longer most there by report zero it at =
+    let own = there 0 it at in (omega (arith, own.0, longer), there_later (length others) (length more) it.report most own.1)
+there_pushed names all others more (first ∷ lines) line longer most there by report (suc i) it at =
+    there_pushed names all others more lines line longer most (there_tail names others first lines there) by report i it at
 
 -- the entry with a number, by the line that stands there
 pub entry_of : (names : List (List ℕ)) (others : List Report) (lines : List Line) (number : ℕ) (line : Option Line)

@@ -3,7 +3,7 @@ ghost use Rattle.pana_journal.specs.Reports.{given_sum};
 
 use crate::entry::Entry;
 use crate::kept_entry::KeptEntry;
-use crate::line::{Line, keep_name, keep_report, report_copy, report_kept, sum_kept};
+use crate::line::{HINTS, Line, keep_name, keep_report, report_copy, report_kept, sum_kept};
 use crate::report::Report;
 use pana_copies::{DeviceName, Sum};
 use pana_list::PlainList;
@@ -31,11 +31,14 @@ pub enum JournalFault {
 
 /// The entries in order, numbered from 1 without gaps.
 ///
-/// An entry goes in by two calls: `reserve`, which may fail, and then `append`, which can't. It takes 16 bytes, and 72 more where
-/// it isn't an Edit, a Reconcile or a Merge without a sum.
+/// An entry goes in by two calls: `reserve`, which may fail, and then `append`, which can't. It takes 16 bytes. It takes 72
+/// more where it is a Register, a Duplicate, a Relocate or a Note, where it gives a sum, and where it names a copy or an entry by
+/// a number above 4,294,967,295.
 pub struct Journal {
     /// The names of devices that have reported, some more than once.
     names: Vec<DeviceName>,
+    /// Where in the list of names one may stand, by its mark; empty before the first entry.
+    hints: Vec<u32>,
     /// The reports that lines have no room for.
     others: Vec<Report>,
     lines: Vec<Line>,
@@ -54,6 +57,7 @@ impl Drop for Journal {
     fn drop(self) {
         let Journal {
             names: _,
+            hints: _,
             others: _,
             lines: _,
             room: _,
@@ -86,6 +90,7 @@ impl Journal {
     {
         Journal {
             names: Vec::new(alloc),
+            hints: Vec::new(alloc),
             others: Vec::new(alloc),
             lines: Vec::new(alloc),
             room: 0,
@@ -105,6 +110,16 @@ impl Journal {
         Ok(())
     }
 
+    /// Makes the hints, where there is none yet.
+    fn reserve_hints(&mut self) -> Result<(), AllocError>
+        ensures { self.new ≡ self.old }
+    {
+        if self.hints.is_empty() {
+            self.hints.resize(HINTS, 0)?;
+        }
+        Ok(())
+    }
+
     /// Reserves room for so many entries more, which stays until it is used.
     ///
     /// # Errors
@@ -119,6 +134,9 @@ impl Journal {
         if MOST_ENTRIES - self.length() < count as u64 {
             return Err(JournalFault::JournalFull);
         }
+        let Ok(()) = self.reserve_hints() else {
+            return Err(JournalFault::OutOfMemory);
+        };
         match self.reserve_lists(count) {
             Ok(()) => Ok(()),
             Err(_) => Err(JournalFault::OutOfMemory),
@@ -132,7 +150,7 @@ impl Journal {
         ensures entries { self.new.entries ≡ self.old.entries ++ record { number = result; by = by; report = report } ∷ [] }
         ensures room { self.old.room ≤ self.new.room + 1 }
     {
-        let by = keep_name(&mut self.names, by);
+        let by = keep_name(&mut self.names, self.hints.as_mut_slice(), by);
         let report = keep_report(&mut self.others, report);
         self.lines.push_reserved(Line { by, report });
         self.room -= 1;

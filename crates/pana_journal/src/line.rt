@@ -1,4 +1,4 @@
-//! What a journal keeps of an entry: 16 bytes, and beside them a report that has more than numbers.
+//! What a journal keeps of an entry: 16 bytes, and beside them a report that has no room there.
 ghost use Rattle.std.specs.Prelude.{◌≡◌, ℕ, ◌+◌, ◌<◌, ◌≤◌, List, length, IfSome, IfOk, Some, slice_get, option_copied, vec_len, vec_capacity};
 ghost use Rattle.std.specs.Cow.{cow_value};
 ghost use Rattle.pana_journal.specs.declared.report.Report.{Report as AReport};
@@ -9,8 +9,8 @@ use pana_copies::{DeviceName, Sum};
 use std::alloc::{AllocError, Global};
 use std::borrow::Cow;
 
-/// Of how many names at the end of a list one is looked for.
-const RECENT: usize = 16;
+/// How many hints there are of where a name stands: one for each mark.
+pub(crate) const HINTS: usize = 256;
 
 /// An entry without its number.
 #[derive(Clone, Copy)]
@@ -22,7 +22,8 @@ pub(crate) struct Line {
 
 const _: () = prove!(size_of::<Line>() == 16);
 
-/// A report, beside a list of those that aren't one of the first three.
+/// A report: its kind and its numbers, or where it stands in a list of those that have more than numbers, or one above
+/// 4,294,967,295.
 #[derive(Clone, Copy)]
 pub(crate) enum Kept {
     /// An Edit without a sum.
@@ -31,6 +32,14 @@ pub(crate) enum Kept {
     Reconcile { a: u32, b: u32 },
     /// A Merge without a sum.
     Merge { a: u32, b: u32 },
+    /// A Remove without an heir.
+    Remove { copy: u32 },
+    /// A Remove with an heir.
+    Bequeath { copy: u32, heir: u32 },
+    /// A Confirm.
+    Confirm { entry: u32 },
+    /// A Withdraw.
+    Withdraw { entry: u32 },
     /// The report at this index of the list.
     Other { index: u32 },
 }
@@ -66,6 +75,22 @@ fn kept_alone(report: &Report) -> Option<Kept>
             let (a, b) = short_pair(*a, *b)?;
             Some(Kept::Merge { a, b })
         }
+        Report::Remove { copy, heir: None } => Some(Kept::Remove {
+            copy: short(*copy)?,
+        }),
+        Report::Remove {
+            copy,
+            heir: Some(heir),
+        } => {
+            let (copy, heir) = short_pair(*copy, *heir)?;
+            Some(Kept::Bequeath { copy, heir })
+        }
+        Report::Confirm { entry } => Some(Kept::Confirm {
+            entry: short(*entry)?,
+        }),
+        Report::Withdraw { entry } => Some(Kept::Withdraw {
+            entry: short(*entry)?,
+        }),
         _ => None,
     }
 }
@@ -90,21 +115,21 @@ pub(crate) fn keep_report(others: &mut Vec<Report>, report: Report) -> Kept
     Kept::Other { index }
 }
 
-/// The index of this name among the last ones, if it is one of them.
-fn recent_index(names: &[DeviceName], by: &DeviceName) -> Option<usize>
+/// The index of this name, if it stands where the hint says.
+fn hinted_index(names: &[DeviceName], hint: Option<&u32>, by: &DeviceName) -> Option<u32>
     ensures { IfSome result (λ index. slice_get names.now index ≡ Some by.now) }
 {
-    for back in 1..=RECENT.min(names.len()) {
-        let index = names.len() - back;
-        if names[index] == *by {
-            return Some(index);
-        }
+    let index = *hint?;
+    if *names.get(index as usize)? == *by {
+        Some(index)
+    } else {
+        None
     }
-    None
 }
 
-/// Keeps a name, at the end of the list where it isn't one of the last ones, and returns its index. Takes no memory.
-pub(crate) fn keep_name(names: &mut Vec<DeviceName>, by: DeviceName) -> u32
+/// Keeps a name, at the end of the list where it doesn't stand where the hint of its mark says, and returns its index, which is the
+/// hint from then on. Takes no memory.
+pub(crate) fn keep_name(names: &mut Vec<DeviceName>, hints: &mut [u32], by: DeviceName) -> u32
     requires room { vec_len names.old < vec_capacity names.old }
     requires few { vec_len names.old ≤ 1000000 }
     ensures is { slice_get names.new.items result ≡ Some by }
@@ -113,10 +138,14 @@ pub(crate) fn keep_name(names: &mut Vec<DeviceName>, by: DeviceName) -> u32
     ensures least { length names.old.items ≤ length names.new.items }
     ensures capacity { vec_capacity names.new ≡ vec_capacity names.old }
 {
-    if let Some(index) = recent_index(names.as_slice(), &by) {
-        return index as u32;
+    let mark = by.mark() as usize;
+    if let Some(index) = hinted_index(names.as_slice(), hints.get(mark), &by) {
+        return index;
     }
     let index = names.len() as u32;
+    if let Some(hint) = hints.get_mut(mark) {
+        *hint = index;
+    }
     names.push_reserved(by);
     index
 }
@@ -140,6 +169,20 @@ pub(crate) fn report_kept(kept: Kept, others: &[Report]) -> Cow<'_, Report>
             a: u64::from(a),
             b: u64::from(b),
             sum: None,
+        }),
+        Kept::Remove { copy } => Cow::Owned(Report::Remove {
+            copy: u64::from(copy),
+            heir: None,
+        }),
+        Kept::Bequeath { copy, heir } => Cow::Owned(Report::Remove {
+            copy: u64::from(copy),
+            heir: Some(u64::from(heir)),
+        }),
+        Kept::Confirm { entry } => Cow::Owned(Report::Confirm {
+            entry: u64::from(entry),
+        }),
+        Kept::Withdraw { entry } => Cow::Owned(Report::Withdraw {
+            entry: u64::from(entry),
         }),
         Kept::Other { index } => Cow::Borrowed(&others[index as usize]),
     }
@@ -167,6 +210,12 @@ pub(crate) fn sum_kept(kept: Kept, others: &[Report]) -> Option<&Sum>
 {
     match kept {
         Kept::Other { index } => others[index as usize].sum(),
-        Kept::Edit { .. } | Kept::Reconcile { .. } | Kept::Merge { .. } => None,
+        Kept::Edit { .. }
+        | Kept::Reconcile { .. }
+        | Kept::Merge { .. }
+        | Kept::Remove { .. }
+        | Kept::Bequeath { .. }
+        | Kept::Confirm { .. }
+        | Kept::Withdraw { .. } => None,
     }
 }

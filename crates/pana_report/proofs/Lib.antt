@@ -1,7 +1,9 @@
+pub mod Blanks
 pub mod Cuts
 pub mod Fit
 pub mod Numbers
 pub mod Pieces
+pub mod Printable
 pub mod Same
 pub mod Worked
 pub mod WorkedStatus

@@ -2,8 +2,11 @@
 ghost use Rattle.std.specs.Prelude.{◌≡◌, ◌++◌, OnOk, string_bytes};
 ghost use Rattle.pana_report.specs.Columns.{blanks, cell};
 
+use crate::width::text_width;
 use std::alloc::AllocError;
-use unicode_width::UnicodeWidthStr;
+
+/// Blanks that are appended at once.
+const BLANKS: &str = "                                ";
 
 /// The side of a column to which its texts go.
 #[derive(Clone, Copy, PartialEq, Eq)]
@@ -16,10 +19,12 @@ pub(crate) enum Alignment {
 fn write_blanks(text: &mut String, count: usize) -> Result<(), AllocError>
     ensures { OnOk result (string_bytes text.new ≡ string_bytes text.old ++ blanks count) }
 {
-    for _i in 0..count {
-        text.push_str(" ")?;
+    let mut left = count;
+    while left > BLANKS.len() {
+        text.push_str(BLANKS)?;
+        left -= BLANKS.len();
     }
-    Ok(())
+    text.push_str(&BLANKS[..left])
 }
 
 /// Appends the content on its side of a column, with blanks up to the column's width.
@@ -32,7 +37,7 @@ pub(crate) fn write_cell(
 ) -> Result<(), AllocError>
     ensures { OnOk result (string_bytes text.new ≡ string_bytes text.old ++ cell side column content.now) }
 {
-    let missing = column.saturating_sub(content.width());
+    let missing = column.saturating_sub(text_width(content));
     match side {
         Alignment::Left => {
             text.push_str(content)?;

@@ -2,8 +2,8 @@
 ghost use Rattle.std.specs.Prelude.{◌≡◌, ◌≤◌, ◌++◌, length, chars, encode_utf8_all, IfOk, OnOk, string_bytes};
 ghost use Rattle.pana_report.specs.Fitted.{cut, fitted, longest_cut, share};
 
+use crate::width::text_width;
 use std::alloc::{AllocError, Global};
-use unicode_width::UnicodeWidthStr;
 
 /// What stands in the place of the middle.
 const ELLIPSIS: char = '…';
@@ -48,7 +48,7 @@ fn longest_cut(alloc: Global, all: &[char], most: usize, kept: usize) -> Result<
     ensures { IfOk result (λ text. string_bytes text ≡ longest_cut most kept all.now) }
 {
     let text = cut(alloc, all, kept)?;
-    if kept == 0 || text.as_str().width() <= most {
+    if kept == 0 || text_width(text.as_str()) <= most {
         return Ok(text);
     }
     longest_cut(alloc, all, most, kept - 1)
@@ -62,7 +62,7 @@ pub(crate) fn fitted(alloc: Global, text: String, most: Option<usize>) -> Result
     let Some(most) = most else {
         return Ok(text);
     };
-    if text.as_str().width() <= most {
+    if text_width(text.as_str()) <= most {
         return Ok(text);
     }
     let all = chars_of(alloc, text.as_str())?;

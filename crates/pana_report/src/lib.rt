@@ -10,6 +10,7 @@ mod place;
 mod printing;
 mod state;
 mod status;
+mod width;
 mod widths;
 
 pub use crate::printing::print;

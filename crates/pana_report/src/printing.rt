@@ -8,6 +8,7 @@ use crate::line::{Texts, write_line};
 use crate::place::fitted_place;
 use crate::state::state_of;
 use crate::widths::Widths;
+use itoa::Buffer;
 use pana_calls::{BoardRow, BoardView};
 use std::alloc::{AllocError, Global};
 
@@ -38,20 +39,20 @@ fn write_row(
 ) -> Result<(), AllocError>
     ensures { OnOk result (string_bytes text.new ≡ string_bytes text.old ++ row_line_of widths.now row.now) }
 {
-    let copy = row.copy.to_string(alloc)?;
     let place = fitted_place(alloc, widths.most, &row.place)?;
-    let newer = row.newer.to_string(alloc)?;
-    let older = row.older.to_string(alloc)?;
-    let equal = row.equal.to_string(alloc)?;
-    let conflict = row.conflict.to_string(alloc)?;
+    let mut copy = Buffer::new();
+    let mut newer = Buffer::new();
+    let mut older = Buffer::new();
+    let mut equal = Buffer::new();
+    let mut conflict = Buffer::new();
     let texts = Texts {
-        copy: copy.as_str(),
+        copy: copy.format(row.copy),
         place: place.as_str(),
         state: state_of(row).name(),
-        newer: newer.as_str(),
-        older: older.as_str(),
-        equal: equal.as_str(),
-        conflict: conflict.as_str(),
+        newer: newer.format(row.newer),
+        older: older.format(row.older),
+        equal: equal.format(row.equal),
+        conflict: conflict.format(row.conflict),
     };
     write_line(text, widths, &texts)
 }

@@ -1,13 +1,13 @@
 //! The widths of the columns of a board's table.
-ghost use Rattle.std.specs.Prelude.{◌≡◌, IfOk};
-ghost use Rattle.pana_report.specs.Columns.{widest};
+ghost use Rattle.std.specs.Prelude.{◌≡◌, IfOk, decimal};
+ghost use Rattle.pana_report.specs.Columns.{widest, width as text_width};
 ghost use Rattle.pana_report.specs.Table.{copy_text, place_limit, row_place};
 
 use crate::fitting::LEAST;
 use crate::place::place_width;
+use itoa::Buffer;
 use pana_calls::BoardRow;
 use std::alloc::{AllocError, Global};
-use unicode_width::UnicodeWidthStr;
 
 /// The width of a column of counts.
 pub(crate) const COUNT: usize = 5;
@@ -35,16 +35,24 @@ pub(crate) struct Widths {
     pub most: Option<usize>,
 }
 
-/// The width of the column of numbers: that of the longest, and at least that of its head.
-fn copy_width(alloc: Global, rows: &[BoardRow]) -> Result<usize, AllocError>
-    ensures { IfOk result (λ width. width ≡ widest 4 copy_text rows.now) }
+/// The columns that a number takes: one for each digit.
+#[tactic(auto, using(crate::proofs::Numbers::numbers_are_as_wide_as_long))]
+fn number_width(number: u64) -> usize
+    ensures { result ≡ text_width (decimal number) }
+{
+    let mut digits = Buffer::new();
+    digits.format(number).len()
+}
+
+/// The width of the column of numbers: that of the longest, and at least that of its head. Takes no memory.
+fn copy_width(rows: &[BoardRow]) -> usize
+    ensures { result ≡ widest 4 copy_text rows.now }
 {
     let mut width = LEAST_COPY;
     for row in rows {
-        let number = row.copy.to_string(alloc)?;
-        width = width.max(number.as_str().width());
+        width = width.max(number_width(row.copy));
     }
-    Ok(width)
+    width
 }
 
 /// How many columns a place may take in a terminal of this width, where numbers take so many.
@@ -83,7 +91,7 @@ impl Widths {
     ) -> Result<Widths, AllocError>
         ensures { IfOk result (λ widths. widths ≡ widths_of (place_limit terminal (widest 4 copy_text rows.now)) rows.now) }
     {
-        let copy = copy_width(alloc, rows)?;
+        let copy = copy_width(rows);
         let most = place_limit(terminal, copy);
         let place = places_width(alloc, most, rows)?;
         Ok(Widths { copy, place, most })

@@ -1,7 +1,8 @@
 -- A text as a terminal may show it.
-use Rattle.std.specs.Prelude.{ℕ, ◌==◌, ◌&&◌, ◌||◌, Bool, false, not, if◌then◌else◌, List, ◌++◌, codes, chars, encode_utf8, flat_map}
+use Rattle.std.specs.Prelude.{◌≡◌, ℕ, ◌==◌, ◌&&◌, ◌||◌, Bool, true, false, not, if◌then◌else◌, List, ◌++◌, codes, chars, encode_utf8, flat_map}
 use Rattle.std.specs.Int.{is_in_range}
 use Rattle.std.specs.Fmt.{digits}
+use Rattle.std.specs.List.{list_all}
 
 -- a control character, but the newline, which ends a line there too
 abbrev pub is_control : ℕ → Bool
@@ -30,3 +31,11 @@ shown_char c = if is_hidden c then code_text c else encode_utf8 c
 -- each character of a text in its turn
 abbrev pub shown : List ℕ → List ℕ
 shown text = flat_map shown_char (chars text)
+
+-- whether each byte of a text is a blank or a visible character of ASCII
+abbrev pub is_printable : List ℕ → Bool
+is_printable text = list_all (is_in_range 0x20 0x7E) text
+
+-- such a text stands as it is
+abbrev pub PrintableStays : Type 0
+PrintableStays = (text : List ℕ) → is_printable text ≡ true → shown text ≡ text

@@ -6,4 +6,4 @@ mod screen;
 mod showing;
 
 pub use crate::screen::Screen;
-pub use crate::showing::shown;
+pub use crate::showing::{is_printable, shown};

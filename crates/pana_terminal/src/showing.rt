@@ -1,5 +1,5 @@
 ghost use Rattle.std.specs.Prelude.{◌≡◌, ◌++◌, IfOk, OnOk, string_bytes};
-ghost use Rattle.pana_terminal.specs.Shown.{is_hidden, code_text, shown_char, shown};
+ghost use Rattle.pana_terminal.specs.Shown.{is_hidden, is_printable, code_text, shown_char, shown};
 
 use std::alloc::{AllocError, Global};
 
@@ -37,10 +37,18 @@ fn push_shown(text: &mut String, alloc: Global, c: char) -> Result<(), AllocErro
     }
 }
 
-/// The text as a terminal may show it: each control character but the newline, each separator of lines or paragraphs and
-/// each character that turns the direction of writing stands as its code, as `\u{202e}`. Fails only where memory runs
-/// out; O(n) in the text.
-pub fn shown(alloc: Global, text: &str) -> Result<String, AllocError>
+/// Whether each byte of the text is a blank or a visible character of ASCII: it is shown as it is. Takes no memory; O(n) in the
+/// text.
+pub fn is_printable(text: &str) -> bool
+    ensures { result ≡ is_printable text.now }
+{
+    text.as_bytes()
+        .iter()
+        .all(|byte| matches!(byte, 0x20..=0x7E))
+}
+
+/// The text as a terminal may show it, character by character.
+fn shown_by_char(alloc: Global, text: &str) -> Result<String, AllocError>
     ensures { IfOk result (λ out. string_bytes out ≡ shown text.now) }
 {
     let mut out = String::with_capacity(alloc, text.len())?;
@@ -48,4 +56,17 @@ pub fn shown(alloc: Global, text: &str) -> Result<String, AllocError>
         push_shown(&mut out, alloc, c)?;
     }
     Ok(out)
+}
+
+/// The text as a terminal may show it: each control character but the newline, each separator of lines or paragraphs and
+/// each character that turns the direction of writing stands as its code, as `\u{202e}`. Fails only where memory runs
+/// out; O(n) in the text.
+#[tactic(auto, using(crate::proofs::Printable::printable_stays))]
+pub fn shown(alloc: Global, text: &str) -> Result<String, AllocError>
+    ensures { IfOk result (λ out. string_bytes out ≡ shown text.now) }
+{
+    if is_printable(text) {
+        return String::from_str(alloc, text);
+    }
+    shown_by_char(alloc, text)
 }

@@ -1,6 +1,6 @@
 //! Boards, families and stamps as texts.
 use crate::json_writing::{
-    WriteJson, write_count, write_flag, write_list, write_number, write_text,
+    WriteJson, write_count, write_flag, write_list, write_number, write_row_number, write_text,
 };
 use json::Writer;
 use pana_calls::{BoardRow, BoardView, CopyStamp, FamilyRow};
@@ -14,7 +14,7 @@ impl WriteJson for BoardRow {
     fn write(&self, out: &mut Writer<Global>) -> Result<(), AllocError> {
         out.begin_object()?;
         write_count(out, "conflict", self.conflict)?;
-        write_number(out, "copy", self.copy)?;
+        write_row_number(out, "copy", self.copy)?;
         write_text(out, "device", self.place.device.as_str())?;
         write_count(out, "equal", self.equal)?;
         write_count(out, "newer", self.newer)?;
@@ -50,7 +50,7 @@ impl WriteJson for FamilyRow {
     fn write(&self, out: &mut Writer<Global>) -> Result<(), AllocError> {
         out.begin_object()?;
         write_count(out, "copies", self.copies)?;
-        write_number(out, "family", self.family)?;
+        write_row_number(out, "family", self.family)?;
         write_count(out, "newest", self.newest)?;
         write_flag(out, "split", self.split)?;
         out.end_object()

@@ -73,6 +73,31 @@ pub(crate) fn write_number(
     out.u64(number)
 }
 
+/// Writes a number, as the kit's `u64` does, but inlined where it is written. Fails only where memory runs out.
+#[inline(always)]
+fn write_digits(out: &mut Writer<Global>, number: u64) -> Result<(), AllocError>
+    ensures tokens { OnOk result (out.new.tokens ≡ out.old.tokens ++ Token.number (decimal number) ∷ []) }
+    ensures before { OnOk result (out.new.before ≡ out.old.before) }
+{
+    let mut digits = Buffer::new();
+    out.number(digits.format(number))
+}
+
+/// As `write_number`, in a row of which an answer has many: there it pays to inline the digits too.
+#[inline(always)]
+pub(crate) fn write_row_number(
+    out: &mut Writer<Global>,
+    name: &str,
+    number: u64,
+) -> Result<(), AllocError>
+    ensures tokens { OnOk result (out.new.tokens ≡ out.old.tokens ++ key name.now ∷ Token.number (decimal number) ∷ []) }
+    ensures before { OnOk result (out.new.before ≡ out.old.before) }
+    ensures number { number < 2 ^ 64 }
+{
+    out.key(name)?;
+    write_digits(out, number)
+}
+
 /// The text of a number of one digit.
 fn digit(number: u64) -> Option<&'static str>
     ensures { IfSome result (λ text. text.now ≡ decimal number) }
@@ -106,7 +131,7 @@ pub(crate) fn write_count(
     out.key(name)?;
     match digit(count) {
         Some(text) => out.number(text),
-        None => out.u64(count),
+        None => write_digits(out, count),
     }
 }
 

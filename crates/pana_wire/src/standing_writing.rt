@@ -1,7 +1,7 @@
 //! Single copies, and how many there are, as texts.
 ghost use Rattle.std.specs.Prelude.{◌≡◌, option_copied};
 
-use crate::json_writing::{WriteJson, write_number, write_sum, write_text};
+use crate::json_writing::{WriteJson, write_number, write_row_number, write_sum, write_text};
 use json::Writer;
 use pana_calls::{CopyStanding, HallCounts, Holding, StatusRow};
 use pana_copies::Sum;
@@ -23,11 +23,11 @@ impl WriteJson for Holding {
 
     fn write(&self, out: &mut Writer<Global>) -> Result<(), AllocError> {
         out.begin_object()?;
-        write_number(out, "copy", self.copy)?;
-        write_number(out, "family", self.family)?;
+        write_row_number(out, "copy", self.copy)?;
+        write_row_number(out, "family", self.family)?;
         write_text(out, "path", self.path.as_str())?;
         write_sum(out, "sum", lent(&self.sum))?;
-        write_number(out, "touch", self.touch)?;
+        write_row_number(out, "touch", self.touch)?;
         out.end_object()
     }
 }

@@ -12,6 +12,10 @@ abbrev pub report_kept : List Report → Kept → Report
 report_kept others (kinds.Edit copy) = reports.Edit copy None
 report_kept others (kinds.Reconcile a b) = reports.Reconcile a b None
 report_kept others (kinds.Merge a b) = reports.Merge a b None
+report_kept others (kinds.Remove copy) = reports.Remove copy None
+report_kept others (kinds.Bequeath copy heir) = reports.Remove copy (Some heir)
+report_kept others (kinds.Confirm entry) = reports.Confirm entry
+report_kept others (kinds.Withdraw entry) = reports.Withdraw entry
 report_kept others (kinds.Other index) = get_or others index (reports.Confirm 0)
 
 -- the entry with this number that a line is

@@ -1,10 +1,27 @@
-use Rattle.std.proofs.Common.{◌≡◌, ◌+◌, length, get_or, [], ◌∷◌, ◌++◌, ap, sym, ◌∙◌, arith}
-use Rattle.std.proofs.lemmas.Option.{get_or_from_slice_get}
+use Rattle.std.proofs.Common.{◌≡◌, ◌+◌, length, get_or, [], ◌∷◌, ◌++◌, ap, sym, subst, ◌∙◌, arith}
+use Rattle.std.proofs.lemmas.Option.{get_or_from_slice_get, slice_get_within}
 use Rattle.pana_journal.specs.Entries.{Contents}
 use Rattle.pana_journal.specs.declared.line.Line.{Line}
-use Rattle.pana_journal.specs.inner.Lines.{entries_kept, entry_kept, report_kept}
-use Rattle.pana_journal.proofs.Lines.{entries_count, entries_keep, entries_push}
+use Rattle.pana_journal.specs.inner.Lines.{AreThere, entries_kept, entry_kept, report_kept}
+use Rattle.pana_journal.proofs.Lines.{entries_count, entries_keep, entries_push, there_pushed}
 use Rattle.pana_journal.proofs.journal.Journal.append.Goals as goal
+
+pub invariant_of-self : goal.invariant_of-self
+invariant_of-self c =
+    let inside = c.self.inside in
+    let names = c.keep_name-by in
+    let others = c.keep_report-report in
+    let lines = c.push_reserved in
+    let line : Line = record { by = names.result; report = others.result } in
+    let by = slice_get_within names.new.names.items names.result c.args.by names.ensures.is in
+    let there = there_pushed inside.names.items names.new.names.items inside.others.items others.new.others.items inside.lines.items line names.ensures.least others.ensures.least c.self.invariant.0 by others.ensures.there in
+    let room : inside.room ≡ c.args.self.now.room = ap (λ (j : Contents). j.room) c.self.view_is in (
+      subst (AreThere names.new.names.items others.new.others.items) (sym lines.ensures.items) there,
+      (omega (arith, names.ensures.more, lines.ensures.len, c.self.invariant.1.0), omega (arith, names.ensures.more, names.ensures.capacity, c.self.invariant.1.1, room, c.requires)),
+      (omega (arith, others.ensures.more, lines.ensures.len, c.self.invariant.2.0), omega (arith, others.ensures.more, others.ensures.capacity, c.self.invariant.2.1, room, c.requires)),
+      (omega arith, omega (arith, lines.ensures.len, lines.ensures.capacity, c.self.invariant.3.1, room, c.requires)),
+      omega (arith, lines.ensures.len, c.self.invariant.4, room, c.requires),
+    )
 
 pub returns-clause-number : goal.returns-clause-number
 returns-clause-number c =

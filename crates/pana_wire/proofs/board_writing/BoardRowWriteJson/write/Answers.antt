@@ -12,7 +12,7 @@ unfolding row_data
 returns-clause-tokens c =
     let begin_at : List Token = c.begin_object.new.self.tokens in
     let conflict_at : List Token = c.write_count.new.out.tokens in
-    let copy_at : List Token = c.write_number.new.out.tokens in
+    let copy_at : List Token = c.write_row_number.new.out.tokens in
     let device_at : List Token = c.write_text.new.out.tokens in
     let equal_at : List Token = c.write_count-2.new.out.tokens in
     let newer_at : List Token = c.write_count-3.new.out.tokens in
@@ -33,7 +33,7 @@ returns-clause-tokens c =
     (λ last.
     (both_written c.args.out.now.tokens begin_at end_at begin_part (conflict_part ++ (copy_part ++ (device_part ++ (equal_part ++ (newer_part ++ (older_part ++ (path_part ++ end_part))))))) c.in_ok-begin_object.ensures.ok
     (both_written begin_at conflict_at end_at conflict_part (copy_part ++ (device_part ++ (equal_part ++ (newer_part ++ (older_part ++ (path_part ++ end_part)))))) c.in_ok-write_count.ensures.tokens
-    (both_written conflict_at copy_at end_at copy_part (device_part ++ (equal_part ++ (newer_part ++ (older_part ++ (path_part ++ end_part))))) c.in_ok-write_number.ensures.tokens
+    (both_written conflict_at copy_at end_at copy_part (device_part ++ (equal_part ++ (newer_part ++ (older_part ++ (path_part ++ end_part))))) c.in_ok-write_row_number.ensures.tokens
     (both_written copy_at device_at end_at device_part (equal_part ++ (newer_part ++ (older_part ++ (path_part ++ end_part)))) c.in_ok-write_text.ensures.tokens
     (both_written device_at equal_at end_at equal_part (newer_part ++ (older_part ++ (path_part ++ end_part))) c.in_ok-write_count-2.ensures.tokens
     (both_written equal_at newer_at end_at newer_part (older_part ++ (path_part ++ end_part)) c.in_ok-write_count-3.ensures.tokens

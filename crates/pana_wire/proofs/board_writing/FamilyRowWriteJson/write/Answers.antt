@@ -12,7 +12,7 @@ unfolding family_data
 returns-clause-tokens c =
     let begin_at : List Token = c.begin_object.new.self.tokens in
     let copies_at : List Token = c.write_count.new.out.tokens in
-    let family_at : List Token = c.write_number.new.out.tokens in
+    let family_at : List Token = c.write_row_number.new.out.tokens in
     let newest_at : List Token = c.write_count-2.new.out.tokens in
     let split_at : List Token = c.write_flag.new.out.tokens in
     let end_at : List Token = c.end_object.new.self.tokens in
@@ -26,7 +26,7 @@ returns-clause-tokens c =
     (λ last.
     (both_written c.args.out.now.tokens begin_at end_at begin_part (copies_part ++ (family_part ++ (newest_part ++ (split_part ++ end_part)))) c.in_ok-begin_object.ensures.ok
     (both_written begin_at copies_at end_at copies_part (family_part ++ (newest_part ++ (split_part ++ end_part))) c.in_ok-write_count.ensures.tokens
-    (both_written copies_at family_at end_at family_part (newest_part ++ (split_part ++ end_part)) c.in_ok-write_number.ensures.tokens
+    (both_written copies_at family_at end_at family_part (newest_part ++ (split_part ++ end_part)) c.in_ok-write_row_number.ensures.tokens
     (both_written family_at newest_at end_at newest_part (split_part ++ end_part) c.in_ok-write_count-2.ensures.tokens
     (both_written newest_at split_at end_at split_part end_part c.in_ok-write_flag.ensures.tokens
     last))))))

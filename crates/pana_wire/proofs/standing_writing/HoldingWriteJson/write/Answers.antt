@@ -24,11 +24,11 @@ pub returns-clause-tokens : goal.returns-clause-tokens
 unfolding holding_data
 returns-clause-tokens c =
     let begin_at : List Token = c.begin_object.new.self.tokens in
-    let copy_at : List Token = c.write_number.new.out.tokens in
-    let family_at : List Token = c.write_number-2.new.out.tokens in
+    let copy_at : List Token = c.write_row_number.new.out.tokens in
+    let family_at : List Token = c.write_row_number-2.new.out.tokens in
     let path_at : List Token = c.write_text.new.out.tokens in
     let sum_at : List Token = c.write_sum.new.out.tokens in
-    let touch_at : List Token = c.write_number-3.new.out.tokens in
+    let touch_at : List Token = c.write_row_number-3.new.out.tokens in
     let end_at : List Token = c.end_object.new.self.tokens in
     let begin_part : List Token = begin_object ∷ [] in
     let copy_part : List Token = key (codes "copy") ∷ number (decimal c.args.self.now.copy) ∷ [] in
@@ -41,10 +41,10 @@ returns-clause-tokens c =
     rw (← whole holding.copy holding.family holding.touch holding.path holding.sum, ← c.as_str.ensures.text, ← c.lent.ensures) (on_ok_weaker c.end_object.result
     (λ last.
     (both_written c.args.out.now.tokens begin_at end_at begin_part (copy_part ++ (family_part ++ (path_part ++ (sum_part ++ (touch_part ++ end_part))))) c.in_ok-begin_object.ensures.ok
-    (both_written begin_at copy_at end_at copy_part (family_part ++ (path_part ++ (sum_part ++ (touch_part ++ end_part)))) c.in_ok-write_number.ensures.tokens
-    (both_written copy_at family_at end_at family_part (path_part ++ (sum_part ++ (touch_part ++ end_part))) c.in_ok-write_number-2.ensures.tokens
+    (both_written begin_at copy_at end_at copy_part (family_part ++ (path_part ++ (sum_part ++ (touch_part ++ end_part)))) c.in_ok-write_row_number.ensures.tokens
+    (both_written copy_at family_at end_at family_part (path_part ++ (sum_part ++ (touch_part ++ end_part))) c.in_ok-write_row_number-2.ensures.tokens
     (both_written family_at path_at end_at path_part (sum_part ++ (touch_part ++ end_part)) c.in_ok-write_text.ensures.tokens
     (both_written path_at sum_at end_at sum_part (touch_part ++ end_part) c.in_ok-write_sum.ensures.tokens
-    (both_written sum_at touch_at end_at touch_part end_part c.in_ok-write_number-3.ensures.tokens
+    (both_written sum_at touch_at end_at touch_part end_part c.in_ok-write_row_number-3.ensures.tokens
     last)))))))
     c.end_object.ensures.ok)

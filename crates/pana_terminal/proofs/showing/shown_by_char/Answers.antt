@@ -2,7 +2,7 @@ use Rattle.std.proofs.Common.{flat_map, sym, ap, ◌∙◌, map-id}
 use Rattle.std.proofs.lemmas.Iterator.{YieldsList-from_chars}
 use Rattle.std.proofs.lemmas.Iterator.Consumers.{YieldsList-end}
 use Rattle.pana_terminal.specs.Shown.{shown_char}
-use Rattle.pana_terminal.proofs.showing.shown.Goals as goal
+use Rattle.pana_terminal.proofs.showing.shown_by_char.Goals as goal
 
 pub returns : goal.returns
 returns c =
