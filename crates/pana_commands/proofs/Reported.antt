@@ -7,7 +7,7 @@ use Rattle.std.proofs.lemmas.List.{append_assoc}
 use Rattle.std.proofs.lemmas.Bool.{ne_eqb}
 use Rattle.pana_journal.specs.declared.entry.Entry.{Entry}
 use Rattle.pana_wire.specs.Lines.{lines_of, texts}
-use Rattle.pana_hall.specs.Load.{IsLoadFault, shown_load_fault}
+use Rattle.pana_hall.specs.Load.{StopsAt, shown_load_fault}
 use Rattle.pana_hall.specs.declared.load_fault.LoadFault.{LoadFault}
 use Rattle.pana_commands.specs.declared.printout.Printout.{Printout}
 use Rattle.pana_wire.specs.declared.line_fault.LineFault.{LineFault}
@@ -72,10 +72,9 @@ next_taken lines index d old mid new reports reports' why within before line is 
     (takes_one_more 1 old (texts (take index lines)) reports mid (get_or lines index d).now why new before line))
 
 -- where loading stopped at an entry, it is reported
-pub load_reported : (terminal : Option ℕ) (entries : List Entry) (fault : LoadFault) (answer : Printout) → IsLoadFault entries fault → fault.at ≢ 0
+pub load_reported : (terminal : Option ℕ) (entries : List Entry) (fault : LoadFault) (answer : Printout) → StopsAt entries fault
     → ((text : List ℕ) → Some (shown_load_fault fault) ≡ Some text → Reports text answer) → AnswersEntries terminal entries answer
-load_reported terminal entries fault answer (inl shortage) some says = absurd (some shortage.0)
-load_reported terminal entries fault answer (inr stops) some says = inr (fault, stops, says (shown_load_fault fault) refl)
+load_reported terminal entries fault answer stops says = inr (fault, stops, says (shown_load_fault fault) refl)
 
 -- a line's fault is reported
 pub line_reported : (terminal : Option ℕ) (lines : List (List ℕ)) (fault : LineFault) (answer : Printout) → HasFault lines fault

@@ -10,3 +10,4 @@ pub mod Boards
 pub mod Newest
 pub mod Counts
 pub mod Status
+pub mod inner

@@ -15,7 +15,7 @@ use std::io::{Read, Write};
 /// From bytes to bytes: what is written are the answers to the lines that are read, each permitted on the journal
 /// that the lines before it leave, beginning with the empty one. After a fault what was written is a prefix of such
 /// answers. Faults are those of `serve`, but for `NoAnswer`, which never comes; `OutOfMemory` also where the hall itself
-/// can't be allocated, before the first read.
+/// can't be allocated, before the first read. The hall's memory is kept until the program ends.
 pub fn run_on<R: Read, W: Write>(
     alloc: Global,
     reader: &mut Tap<R>,
@@ -36,7 +36,8 @@ pub fn run_on<R: Read, W: Write>(
     match Hall::new(alloc) {
         Ok(mut hall) => {
             let served = serve(alloc, reader, writer, &mut hall, reads);
-            drop(hall);
+            // The program ends behind this, and the system takes all pages back at once.
+            std::mem::forget(hall);
             served
         }
         Err(_) => Err(ServeFault::OutOfMemory),

@@ -114,7 +114,8 @@ fn show_lines(
 
 /// Takes lines as a session does, and returns the tables of the families that they leave, for standard output, and for
 /// standard error a report about each line that was faulty or refused, with its number from 1; the status is 1 where
-/// there is one. The tables are for a terminal of this width, where one is given.
+/// there is one. The tables are for a terminal of this width, where one is given. The hall's memory is kept until the
+/// program ends.
 ///
 /// # Errors
 ///
@@ -126,6 +127,7 @@ pub fn show_on(alloc: Global, terminal: Option<usize>, bytes: &[u8]) -> Result<P
     let lines = split_lines(alloc, bytes)?;
     let mut hall = Hall::new(alloc)?;
     let shown = show_lines(alloc, terminal, &mut hall, lines.as_slice());
-    drop(hall);
+    // The program ends behind this, and the system takes all pages back at once.
+    std::mem::forget(hall);
     shown
 }

@@ -100,9 +100,9 @@ impl DeviceName {
         unsafe { str::from_utf8_unchecked(self.as_bytes()) }
     }
 
-    /// A byte of all of the name, in which most other names differ. Takes no memory.
+    /// A byte in which most other names differ. Takes no memory.
     #[tactic(auto, unfolding(crate::specs::inner::Marks::mark_of))]
-    pub fn mark(&self) -> u8
+    pub(crate) fn mark(&self) -> u8
         ensures { result ≡ mark_of self.now }
     {
         let bytes = self.as_bytes();

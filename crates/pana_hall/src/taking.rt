@@ -1,5 +1,5 @@
 //! A journal's entries, taken one after another into a new hall.
-ghost use Rattle.std.specs.Prelude.{◌≡◌, ◌+◌, [], ◌∷◌, ◌++◌, length, IfOk, IfErr, OnOk};
+ghost use Rattle.std.specs.Prelude.{◌≡◌, ◌+◌, ◌-◌, [], ◌∷◌, ◌++◌, length, take, IfOk, IfErr, OnOk, OnErr};
 
 use crate::hall::Hall;
 use crate::load_fault::{LoadCause, LoadFault};
@@ -26,14 +26,20 @@ impl Hall {
             alloc,
             state: State::new(alloc),
         };
-        hall.take_each(entries)?;
+        hall.take_entries(entries)?;
         Ok(hall)
     }
 
-    /// Takes the next entries of a journal, up to the first that isn't the next one.
-    fn take_each(&mut self, entries: EntryList) -> Result<(), LoadFault>
+    /// Takes the next entries of a journal in order, each by the device that reported it.
+    ///
+    /// # Errors
+    ///
+    /// The first entry that isn't the next one, as `load` returns it, with its position in the whole journal. The hall
+    /// then has the entries before it.
+    pub fn take_entries(&mut self, entries: EntryList) -> Result<(), LoadFault>
         ensures ok { OnOk result (self.new ≡ self.old ++ entries) }
         ensures fault { IfErr result (StopsAt (self.old ++ entries)) }
+        ensures before { IfErr result (λ fault. self.new ≡ take (fault.at - 1) (self.old ++ entries)) }
     {
         let mut rest = entries.into_vec().into_iter();
         while let Some(entry) = rest.next() {
@@ -47,6 +53,7 @@ impl Hall {
     fn take(&mut self, entry: Entry) -> Result<(), LoadFault>
         ensures ok { OnOk result (self.new ≡ self.old ++ entry ∷ []) }
         ensures accepted { IsAccepted 8 self.old }
+        ensures same { OnErr result (self.new ≡ self.old) }
         ensures fault { IfErr result (λ fault. (fault.at ≡ length self.old + 1) × Stops self.old entry fault.cause) }
     {
         let at = self.length() + 1;

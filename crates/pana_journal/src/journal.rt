@@ -37,7 +37,7 @@ pub enum JournalFault {
 pub struct Journal {
     /// The names of devices that have reported, some more than once.
     names: Vec<DeviceName>,
-    /// Where in the list of names one may stand, by its mark; empty before the first entry.
+    /// Where in the list of names one may stand, by a byte of it; empty before the first entry.
     hints: Vec<u32>,
     /// The reports that lines have no room for.
     others: Vec<Report>,

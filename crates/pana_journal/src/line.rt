@@ -9,7 +9,7 @@ use pana_copies::{DeviceName, Sum};
 use std::alloc::{AllocError, Global};
 use std::borrow::Cow;
 
-/// How many hints there are of where a name stands: one for each mark.
+/// How many hints there are of where a name stands: one for each value of a byte.
 pub(crate) const HINTS: usize = 256;
 
 /// An entry without its number.
@@ -115,6 +115,15 @@ pub(crate) fn keep_report(others: &mut Vec<Report>, report: Report) -> Kept
     Kept::Other { index }
 }
 
+/// The position of the hint of a name: a byte of all of it, in which most other names differ.
+fn mark(by: &DeviceName) -> usize {
+    let mut mark = 0u8;
+    for byte in by.as_str().as_bytes() {
+        mark = mark.wrapping_mul(31).wrapping_add(*byte);
+    }
+    mark as usize
+}
+
 /// The index of this name, if it stands where the hint says.
 fn hinted_index(names: &[DeviceName], hint: Option<&u32>, by: &DeviceName) -> Option<u32>
     ensures { IfSome result (λ index. slice_get names.now index ≡ Some by.now) }
@@ -138,7 +147,7 @@ pub(crate) fn keep_name(names: &mut Vec<DeviceName>, hints: &mut [u32], by: Devi
     ensures least { length names.old.items ≤ length names.new.items }
     ensures capacity { vec_capacity names.new ≡ vec_capacity names.old }
 {
-    let mark = by.mark() as usize;
+    let mark = mark(&by);
     if let Some(index) = hinted_index(names.as_slice(), hints.get(mark), &by) {
         return index;
     }

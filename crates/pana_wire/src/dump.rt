@@ -28,24 +28,28 @@ pub fn decode_dump(alloc: Global, line: &[u8]) -> Result<EntryList, WireFault>
     ensures memory { IfErr result (λ fault. fault ≡ WireFault.OutOfMemory → IsDumpText line.now) }
 {
     let mut reader = LineReader::new(alloc);
-    read_entries(&mut reader, line)
+    reader.read_dump(line)
 }
 
-// The same, with memory that is kept from line to line.
-#[tactic(auto, unfolding(crate::specs::Dump::dump_says))]
-fn read_entries(reader: &mut LineReader, line: &[u8]) -> Result<EntryList, WireFault>
-    ensures exact { Gives result (dump_says line.now) }
-    ensures memory { IfErr result (λ fault. fault ≡ WireFault.OutOfMemory → IsDumpText line.now) }
-{
-    let LineReader { alloc, scratch, .. } = reader;
-    let text = text_within(line, LONGEST_DUMP)?;
-    if let Some(entries) = flat_entries(*alloc, text, scratch) {
-        return Ok(entries);
+impl LineReader {
+    /// The entries that a line of a dump has, or its first fault, as `decode_dump` returns them.
+    ///
+    /// It keeps as many bytes as the longest line that it has read.
+    #[tactic(auto, unfolding(crate::specs::Dump::dump_says))]
+    pub fn read_dump(&mut self, line: &[u8]) -> Result<EntryList, WireFault>
+        ensures exact { Gives result (dump_says line.now) }
+        ensures memory { IfErr result (λ fault. fault ≡ WireFault.OutOfMemory → IsDumpText line.now) }
+    {
+        let LineReader { alloc, scratch, .. } = self;
+        let text = text_within(line, LONGEST_DUMP)?;
+        if let Some(entries) = flat_entries(*alloc, text, scratch) {
+            return Ok(entries);
+        }
+        let value = value_in(*alloc, text)?;
+        check_object(&value)?;
+        let objects = objects_in(&value)?;
+        entries_in(*alloc, objects)
     }
-    let value = value_in(*alloc, text)?;
-    check_object(&value)?;
-    let objects = objects_in(&value)?;
-    entries_in(*alloc, objects)
 }
 
 /// The entries in the lines of a dump, one line after another, or the first line that has a fault.
@@ -62,7 +66,7 @@ pub fn decode_dump_lines(
     let mut reader = LineReader::new(alloc);
     let mut entries = EntryList::new(alloc);
     for (index, line) in lines.iter().enumerate() {
-        match read_entries(&mut reader, line) {
+        match reader.read_dump(line) {
             Ok(more) => entries.append(more)?,
             Err(fault) => {
                 let line = index as u64 + 1;

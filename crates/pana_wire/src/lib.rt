@@ -32,7 +32,7 @@ pub use crate::fault::WireFault;
 pub use crate::field::Field;
 pub use crate::line_fault::LineFault;
 pub use crate::open_line::OpenLine;
-pub use crate::reading::decode;
+pub use crate::reading::{LineReader, decode};
 pub use crate::report_writing::encode_call;
 pub use crate::serving::{ServeFault, Served, serve, serve_groups};
 pub use crate::tap::Tap;

@@ -28,10 +28,10 @@ const DEEPEST: usize = 127;
 
 /// Reads lines, with memory that is kept from line to line.
 pub struct LineReader {
-    pub alloc: Global,
-    pub scratch: Scratch<Global>,
+    pub(crate) alloc: Global,
+    pub(crate) scratch: Scratch<Global>,
     // For the texts of answers.
-    pub room: Vec<u8>,
+    pub(crate) room: Vec<u8>,
 }
 
 impl Drop for LineReader {

@@ -4,7 +4,7 @@ use Rattle.pana_journal.specs.declared.entry.Entry.{Entry}
 use Rattle.pana_wire.specs.Line.{text_within}
 use Rattle.pana_wire.specs.Dump.{dump_says}
 use Rattle.pana_wire.specs.inner.FlatEntries.{text_says}
-use Rattle.pana_wire.proofs.dump.read_entries.Goals as goal
+use Rattle.pana_wire.proofs.reading.LineReader.read_dump.Goals as goal
 
 flat_says : (line text : List ℕ) (entries : List Entry) → text_within 1048576 line ≡ Ok text → text_says text ≡ Ok entries → dump_says line ≡ Ok entries
 unfolding dump_says

@@ -1,0 +1,2 @@
+-- Words that only inner functions and proofs need: nobody has to believe them.
+pub mod Taken
