@@ -1,5 +1,6 @@
 use crate::notation::id_text;
 use pana_id::{IdFault, IdTree, Node};
+use std::mem::size_of;
 use std::test::Fail;
 
 #[test]
@@ -34,9 +35,23 @@ fn builds_nodes(rt: HostRuntime) -> Result<(), Fail> {
     Ok(())
 }
 
+// An id of one place takes no box, down to some sixty choices.
+#[test]
+fn one_place_takes_no_box(rt: HostRuntime) -> Result<(), Fail> {
+    let alloc = rt.alloc();
+    let (left, right) = IdTree::one().split(alloc)?;
+    assert!(rt; matches!(left.node(), Node::Single(0)));
+    assert!(rt; matches!(right.node(), Node::Single(1)));
+    let (_first, second) = right.split(alloc)?;
+    assert!(rt; matches!(second.node(), Node::Single(5)));
+    assert_eq!(rt; id_text(alloc, second.node())?.as_str(), "(0,(0,1))");
+    assert_eq!(rt; size_of::<Node>(), 16);
+    Ok(())
+}
+
 // The deepest id is divided, printed and taken back on little enough stack.
 #[test]
-fn divides_in_place_and_absorbs(rt: HostRuntime) -> Result<(), Fail> {
+fn divides_in_place_and_adds_up(rt: HostRuntime) -> Result<(), Fail> {
     let alloc = rt.alloc();
     let mut id = IdTree::one();
     let mut given = Vec::new(alloc);
@@ -48,7 +63,7 @@ fn divides_in_place_and_absorbs(rt: HostRuntime) -> Result<(), Fail> {
     assert_eq!(rt; id_text(alloc, id.node())?.as_str(), deepest.as_str());
     for part in given.into_iter().rev() {
         assert!(rt; IdTree::disjoint(&id, &part));
-        id.absorb(part);
+        id = IdTree::sum(alloc, &id, &part)?;
     }
     assert_eq!(rt; id_text(alloc, id.node())?.as_str(), "1");
     Ok(())

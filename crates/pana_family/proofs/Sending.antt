@@ -29,7 +29,7 @@ use Rattle.std.specs.contracts.alloc.Global as globals
 use Rattle.std.specs.contracts.impls.GlobalAllocator.TheImpl as heap
 
 id_node_send : IsSend (id_node.the_field).row
-id_node_send = id_knot.send-Node (λ h s. search (sendable, boxes.the_send, global.the_send, frees.the_frees))
+id_node_send = id_knot.send-Node (search sendable) (λ h s. search (sendable, boxes.the_send, global.the_send, frees.the_frees))
 
 id_send : IsSend id_tree.the_row
 id_send = search (sendable, id_node_send)

@@ -7,18 +7,36 @@ ghost use Rattle.pana_event.specs.Shape.{tree};
 ghost use Rattle.pana_event.specs.declared.rel.Rel.TheVariants.{Equal, Older, Newer, Conflict};
 
 use pana_event::{Node, Rel};
-use pana_id::Node as IdNode;
+use pana_id::{Halves as IdHalves, Node as IdNode};
 use pana_stamp::Stamp;
 
 /// Whether the event is below another, as `is_below` of its node says it, looked at first where the id owns points: there an
 /// owner's latest updates are, which others may lack. Takes no memory; visits each node at most once.
+#[cycle(order)]
 fn is_below_by(id: &IdNode, event: &Node, base: u64, other: &Node, other_base: u64) -> bool
     requires first { base + greatest (tree event.now) < 2 ^ 64 }
     requires second { other_base + greatest (tree other.now) < 2 ^ 64 }
     ensures { result ≡ is_below base (tree event.now) other_base (tree other.now) }
 {
-    match (id, event, other) {
-        (IdNode::Pair(ids), Node::Fork(m, halves), Node::Fork(n, others)) => {
+    match id {
+        IdNode::Zero | IdNode::One => event.is_below(base, other, other_base),
+        IdNode::Single(number) => {
+            let ids = IdHalves::of_single(*number);
+            is_below_in(&ids, event, base, other, other_base)
+        }
+        IdNode::Pair(ids) => is_below_in(ids, event, base, other, other_base),
+    }
+}
+
+/// The same for the id with these halves.
+#[cycle(order)]
+fn is_below_in(ids: &IdHalves, event: &Node, base: u64, other: &Node, other_base: u64) -> bool
+    requires first { base + greatest (tree event.now) < 2 ^ 64 }
+    requires second { other_base + greatest (tree other.now) < 2 ^ 64 }
+    ensures { result ≡ is_below base (tree event.now) other_base (tree other.now) }
+{
+    match (event, other) {
+        (Node::Fork(m, halves), Node::Fork(n, others)) => {
             let lifted = base + *m;
             let other_lifted = other_base + *n;
             if lifted > other_lifted {

@@ -1,4 +1,6 @@
 pub mod Divides
+pub mod Nodes
+pub mod Numbered
 pub mod Pairs
 pub mod Parts
 pub mod Points

@@ -165,11 +165,3 @@ pub parted_as_parts : (i value a b : Id) → i ≡ value → ◌≡◌ {A = Id �
 parted_as_parts i value a b same two test v =
     as_parts i value a b (λ pair_of. IsParted value pair_of.0 pair_of.1) same two test
     (λ tested. let P : Id → Type 0 = λ whole. IsParted whole (parts i).0 (parts i).1 in subst P same (parted-parts i tested v))
-
--- the sum of trees that are the parts of a tree is that tree
-pub back_as_sum : (i j value other new whole : Id) → i ≡ value → j ≡ other → new ≡ sum_of i j → IsNormal whole → ◌≡◌ {A = Id × Id} (value, other) (parts whole)
-    → new ≡ whole
-back_as_sum i j value other new whole first second summed normal two =
-    let left : i ≡ (parts whole).0 = first ∙ ap (λ both. both.0) two in
-    let right : j ≡ (parts whole).1 = second ∙ ap (λ both. both.1) two in
-    summed ∙ ap₂ sum_of left right ∙ sum-parts whole normal

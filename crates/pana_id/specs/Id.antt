@@ -30,6 +30,12 @@ is_zero zero_id = true
 is_zero one_id = false
 is_zero (pair l r) = false
 
+-- whether the id is 1
+abbrev pub is_one : Id → Bool
+is_one zero_id = false
+is_one one_id = true
+is_one (pair l r) = false
+
 -- the two ids are neither both 0 nor both 1
 abbrev pub IsOpen : Id → Id → Type 0
 IsOpen zero_id zero_id = ⊥

@@ -158,16 +158,4 @@ impl IdTree {
         let second = self.node.split_off(alloc)?;
         Ok(IdTree { node: second })
     }
-
-    /// Makes this the sum of the two ids, by moving the other's halves in. What was split off is so taken back:
-    /// the id is then the tree that it was.
-    /// Takes no memory, and visits each node of the two at most once.
-    pub fn absorb(&mut self, other: IdTree)
-        requires { SharesNoPoint self.old other }
-        ensures tree { self.new ≡ sum_of self.old other }
-        ensures summed { IsSum self.new self.old other }
-        ensures back { (whole : Id) → IsNormal whole → (self.old, other) ≡ parts whole → self.new ≡ whole }
-    {
-        self.node.absorb(other.node);
-    }
 }

@@ -1,7 +1,7 @@
 -- What filling gives.
-use Rattle.std.proofs.Common.{◌≡◌, ◌≤◌, max, Bool, true, false, List, [], ◌∷◌, length, arith, refl}
-use Rattle.pana_id.specs.Id.{Id, zero_id, one_id, pair, has}
-use Rattle.pana_event.specs.Event.{Event, leaf, fork, level, least, greatest, depth, IsNormal, IsSound}
+use Rattle.std.proofs.Common.{◌≡◌, ℕ, ◌≤◌, max, Bool, true, false, List, [], ◌∷◌, length, arith, refl, ap}
+use Rattle.pana_id.specs.Id.{Id, zero_id, one_id, pair, has, is_one}
+use Rattle.pana_event.specs.Event.{Event, leaf, fork, level, least, greatest, norm, depth, IsNormal, IsSound}
 use Rattle.pana_event.proofs.Levels.{least-le-greatest, level-le-greatest}
 use Rattle.pana_event.proofs.Norms.{greatest-norm, depth-norm, level-norm-left, level-norm-right, normal-norm}
 use Rattle.pana_stamp.specs.Fill.{fill, IsFilled}
@@ -105,3 +105,18 @@ IsSound-fill i e sound =
       shallow = omega (arith, depth-fill i e, sound.shallow);
       fits = omega (arith, greatest-fill i e, sound.fits);
     }
+
+-- what filling a fork is where the left half of the id isn't 1
+pub fill_right : (i j : Id) (n : ℕ) (l r : Event) → is_one i ≡ false → j ≡ one_id → fill (pair i j) (fork n l r) ≡ norm n (fill i l) (leaf (max (greatest r) (least (fill i l))))
+fill_right zero_id j n l r other one = ap (λ j. fill (pair zero_id j) (fork n l r)) one
+fill_right one_id j n l r other one = absurd (cc)
+fill_right (pair a b) j n l r other one = ap (λ j. fill (pair (pair a b) j) (fork n l r)) one
+
+pub fill_both : (i j : Id) (n : ℕ) (l r : Event) → is_one i ≡ false → is_one j ≡ false → fill (pair i j) (fork n l r) ≡ norm n (fill i l) (fill j r)
+fill_both one_id j n l r other other' = absurd (cc)
+fill_both zero_id one_id n l r other other' = absurd (cc)
+fill_both zero_id zero_id n l r other other' = refl
+fill_both zero_id (pair c d) n l r other other' = refl
+fill_both (pair a b) one_id n l r other other' = absurd (cc)
+fill_both (pair a b) zero_id n l r other other' = refl
+fill_both (pair a b) (pair c d) n l r other other' = refl

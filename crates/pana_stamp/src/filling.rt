@@ -2,13 +2,13 @@
 ghost use Rattle.std.specs.Prelude.{◌≡◌, ◌+◌, ◌^◌, ◌<◌, max, IfOk, IfSome, IfNone};
 ghost use Rattle.pana_event.specs.Event.{IsNormal, IsOpen, fork, greatest, leaf, least, norm};
 ghost use Rattle.pana_event.specs.Shape.{tree as event_of};
-ghost use Rattle.pana_id.specs.Node.{tree as id_of};
+ghost use Rattle.pana_id.specs.{Id.pair, Node.tree as id_of};
 ghost use Rattle.pana_stamp.specs.Fill.{IsFilled, fill as fill_of};
 ghost use Rattle.pana_stamp.specs.Raised.{IsRaised};
 ghost use Rattle.pana_stamp.specs.inner.Renewed.{Differs, new_or};
 
 use pana_event::{EventTree, Node};
-use pana_id::{IdTree, Node as IdNode};
+use pana_id::{Halves as IdHalves, IdTree, Node as IdNode};
 use std::alloc::{AllocError, Global};
 
 /// The event filled for an id: it lowers no level, changes points that the id owns alone, and raises none
@@ -60,18 +60,33 @@ pub(crate) fn filled(
 
 /// The node of the filled event, unless filling changes nothing. The greatest level is looked for only in halves under a
 /// 1, which aren't walked otherwise, and the least is the own number of a filled half: so each node is visited at most once.
-#[tactic(auto, using(crate::proofs::Fills::fill_limits))]
+#[cycle(walk)]
 fn fill_node(alloc: Global, id: &IdNode, event: &Node) -> Result<Option<Node>, AllocError>
     requires normal { IsNormal (event_of event.now) }
     requires fits { greatest (event_of event.now) < 2 ^ 64 }
     ensures tree { IfOk result (λ new. new_or new (event_of event.now) ≡ fill_of (id_of id.now) (event_of event.now)) }
     ensures changed { IfOk result (Differs (event_of event.now)) }
 {
-    match (id, event) {
-        (IdNode::Zero, _) => Ok(None),
-        (IdNode::One, _) => Ok(leaf_for(event, event.greatest())),
-        (IdNode::Pair(_), Node::Leaf(_)) => Ok(None),
-        (IdNode::Pair(ids), Node::Fork(number, halves)) => match (&ids.left, &ids.right) {
+    match id {
+        IdNode::Zero => Ok(None),
+        IdNode::One => Ok(leaf_for(event, event.greatest())),
+        IdNode::Single(number) => fill_halves(alloc, &IdHalves::of_single(*number), event),
+        IdNode::Pair(ids) => fill_halves(alloc, ids, event),
+    }
+}
+
+/// The same for the id with these halves.
+#[cycle(walk)]
+#[tactic(auto, using(crate::proofs::Fills::fill_limits))]
+fn fill_halves(alloc: Global, ids: &IdHalves, event: &Node) -> Result<Option<Node>, AllocError>
+    requires normal { IsNormal (event_of event.now) }
+    requires fits { greatest (event_of event.now) < 2 ^ 64 }
+    ensures tree { IfOk result (λ new. new_or new (event_of event.now) ≡ fill_of (pair (id_of ids.now.left) (id_of ids.now.right)) (event_of event.now)) }
+    ensures changed { IfOk result (Differs (event_of event.now)) }
+{
+    match event {
+        Node::Leaf(_) => Ok(None),
+        Node::Fork(number, halves) => match (&ids.left, &ids.right) {
             (IdNode::One, id) => {
                 let right = fill_node(alloc, id, &halves.right)?;
                 let level = halves.left.greatest().max(least_of(&right, &halves.right));

@@ -2,7 +2,7 @@
 ghost use Rattle.std.specs.Prelude.{◌≡◌, ◌+◌, ◌^◌, ◌<◌, ◌≤◌, IfOk, false};
 ghost use Rattle.pana_event.specs.Event.{greatest, leaf};
 ghost use Rattle.pana_event.specs.Shape.{tree as event_of};
-ghost use Rattle.pana_id.specs.Id.{depth as depth_of, is_zero};
+ghost use Rattle.pana_id.specs.Id.{depth as depth_of, is_zero, pair};
 ghost use Rattle.pana_id.specs.Node.{tree as id_of};
 ghost use Rattle.pana_stamp.specs.Fill.{fill as fill_of};
 ghost use Rattle.pana_stamp.specs.Grow.{IsGrown, cost_of, event_if, goes_right as is_right, grow as grow_of, grown_at, left_of, opened_by as opens, right_of};
@@ -10,7 +10,7 @@ ghost use Rattle.pana_stamp.specs.Raised.{IsRaised};
 
 use crate::cost::Cost;
 use pana_event::{EventTree, Node};
-use pana_id::{IdTree, Node as IdNode};
+use pana_id::{Halves as IdHalves, IdTree, Node as IdNode};
 use std::alloc::{AllocError, Global};
 
 /// The event grown for an id, where filling changes nothing: one more at all points of a place that the id
@@ -42,6 +42,7 @@ pub fn grow(alloc: Global, id: &IdTree, event: &EventTree) -> Result<(EventTree,
 }
 
 /// The least cost at which the event grows for the id. Takes no memory; visits each node at most once.
+#[cycle(walk)]
 fn least_cost(id: &IdNode, event: &Node) -> Cost
     requires { depth_of (id_of id.now) ≤ 256 }
     ensures value { result ≡ cost_of (id_of id.now) (event_of event.now) }
@@ -53,24 +54,34 @@ fn least_cost(id: &IdNode, event: &Node) -> Cost
             opened: 0,
             levels: 0,
         },
-        IdNode::Pair(ids) => {
-            let zero = Node::Leaf(0);
-            let (left_event, right_event) = halves_of(event, &zero);
-            let left = least_cost(&ids.left, left_event);
-            let right = least_cost(&ids.right, right_event);
-            let opened = opened_by(event);
-            if goes_right(&ids.left, &ids.right, left, right) {
-                right.one_up(opened)
-            } else {
-                left.one_up(opened)
-            }
-        }
+        IdNode::Single(number) => least_cost_in(&IdHalves::of_single(*number), event),
+        IdNode::Pair(ids) => least_cost_in(ids, event),
+    }
+}
+
+/// The same for the id with these halves.
+#[cycle(walk)]
+fn least_cost_in(ids: &IdHalves, event: &Node) -> Cost
+    requires { depth_of (pair (id_of ids.now.left) (id_of ids.now.right)) ≤ 256 }
+    ensures value { result ≡ cost_of (pair (id_of ids.now.left) (id_of ids.now.right)) (event_of event.now) }
+    ensures opened { result.opened ≤ depth_of (pair (id_of ids.now.left) (id_of ids.now.right)) }
+    ensures levels { result.levels ≤ depth_of (pair (id_of ids.now.left) (id_of ids.now.right)) }
+{
+    let zero = Node::Leaf(0);
+    let (left_event, right_event) = halves_of(event, &zero);
+    let left = least_cost(&ids.left, left_event);
+    let right = least_cost(&ids.right, right_event);
+    let opened = opened_by(event);
+    if goes_right(&ids.left, &ids.right, left, right) {
+        right.one_up(opened)
+    } else {
+        left.one_up(opened)
     }
 }
 
 /// The event grown at the last 1 of the id that costs just so much, if there is one: the right half is tried
 /// first, and only the half that grows is built anew. Visits each node at most once.
-#[tactic(auto, using(crate::proofs::Halves::half_limits))]
+#[cycle(grow)]
 fn grow_at(
     alloc: Global,
     id: &IdNode,
@@ -90,26 +101,44 @@ fn grow_at(
                 Ok(None)
             }
         }
-        IdNode::Pair(ids) => {
-            let by = opened_by(event);
-            if opened < by || levels == 0 {
-                return Ok(None);
-            }
-            let zero = Node::Leaf(0);
-            let (left, right) = halves_of(event, &zero);
-            if let Some(grown) = grow_at(alloc, &ids.right, right, opened - by, levels - 1)? {
-                let kept = left.share()?;
-                let fork = Node::fork_of(alloc, event.number(), kept, grown)?;
-                return Ok(Some(fork));
-            }
-            if let Some(grown) = grow_at(alloc, &ids.left, left, opened - by, levels - 1)? {
-                let kept = right.share()?;
-                let fork = Node::fork_of(alloc, event.number(), grown, kept)?;
-                return Ok(Some(fork));
-            }
-            Ok(None)
+        IdNode::Single(number) => {
+            let ids = IdHalves::of_single(*number);
+            grow_half(alloc, &ids, event, opened, levels)
         }
+        IdNode::Pair(ids) => grow_half(alloc, ids, event, opened, levels),
     }
+}
+
+/// The same for the id with these halves.
+#[cycle(grow)]
+#[tactic(auto, using(crate::proofs::Halves::half_limits))]
+fn grow_half(
+    alloc: Global,
+    ids: &IdHalves,
+    event: &Node,
+    opened: u32,
+    levels: u32,
+) -> Result<Option<Node>, AllocError>
+    requires { greatest (event_of event.now) + 1 < 2 ^ 64 }
+    ensures { IfOk result (λ node. event_if node ≡ grown_at (pair (id_of ids.now.left) (id_of ids.now.right)) (event_of event.now) opened levels) }
+{
+    let by = opened_by(event);
+    if opened < by || levels == 0 {
+        return Ok(None);
+    }
+    let zero = Node::Leaf(0);
+    let (left, right) = halves_of(event, &zero);
+    if let Some(grown) = grow_at(alloc, &ids.right, right, opened - by, levels - 1)? {
+        let kept = left.share()?;
+        let fork = Node::fork_of(alloc, event.number(), kept, grown)?;
+        return Ok(Some(fork));
+    }
+    if let Some(grown) = grow_at(alloc, &ids.left, left, opened - by, levels - 1)? {
+        let kept = right.share()?;
+        let fork = Node::fork_of(alloc, event.number(), grown, kept)?;
+        return Ok(Some(fork));
+    }
+    Ok(None)
 }
 
 /// Whether growth goes right, where the halves have these ids and costs.

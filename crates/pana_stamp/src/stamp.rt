@@ -173,19 +173,6 @@ impl Stamp {
         self.id.split_off(alloc)
     }
 
-    /// Makes the id the sum of the two, by `IdTree::absorb`. An id that was split off is so taken back, and the id
-    /// is then the tree that it was. The event stays as it is.
-    /// Takes no memory; visits each node of the ids at most once.
-    pub fn absorb(&mut self, other: IdTree)
-        requires { SharesNoPoint self.old.id other }
-        ensures owner { self.new.id ≡ sum_of self.old.id other }
-        ensures summed { IsSum self.new.id self.old.id other }
-        ensures back { (whole : Id) → IsNormal whole → (self.old.id, other) ≡ parts whole → self.new.id ≡ whole }
-        ensures event { self.new.event ≡ self.old.event }
-    {
-        self.id.absorb(other);
-    }
-
     /// How what the first stamp's copy knows relates to what the second's does. The ids don't count. Takes no
     /// memory; visits each node of the events at most twice.
     pub fn compare(first: &Stamp, second: &Stamp) -> Rel

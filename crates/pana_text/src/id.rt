@@ -75,7 +75,7 @@ pub(crate) fn check_id(text: &[u8], deeper: u32, total: usize) -> Result<(IdKind
     }
 }
 
-/// The id that the text begins with, and what follows it. `deeper` more pairs may open. Takes a box a pair.
+/// The id that the text begins with, and what follows it. `deeper` more pairs may open. Takes at most a box a pair.
 #[tactic(auto, using(crate::proofs::Steps::deeper))]
 pub(crate) fn build_id(
     alloc: Global,

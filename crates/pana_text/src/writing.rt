@@ -1,6 +1,6 @@
 //! The texts of stamps.
 ghost use Rattle.std.specs.Prelude.{◌≡◌, ◌++◌, ◌^◌, ◌<◌, IfOk, OnOk, decimal, string_bytes};
-ghost use Rattle.pana_id.specs.Node.{tree as id_of};
+ghost use Rattle.pana_id.specs.{Id.pair, Node.tree as id_of};
 ghost use Rattle.pana_event.specs.Event.{greatest};
 ghost use Rattle.pana_event.specs.Shape.{tree as event_of};
 ghost use Rattle.pana_text.specs.Text.{event_text, id_text, stamp_text};
@@ -13,21 +13,29 @@ use std::alloc::{AllocError, Global};
 const FIRST_ROOM: usize = 128;
 
 /// Appends the text of an id.
-#[tactic(auto, using(crate::proofs::Appends::appends))]
+#[cycle(ids)]
 fn write_id(text: &mut String, id: &pana_id::Node) -> Result<(), AllocError>
     ensures { OnOk result (string_bytes text.new ≡ string_bytes text.old ++ id_text (id_of id.now)) }
 {
     match id {
         pana_id::Node::Zero => text.push('0'),
         pana_id::Node::One => text.push('1'),
-        pana_id::Node::Pair(halves) => {
-            text.push('(')?;
-            write_id(text, &halves.left)?;
-            text.push(',')?;
-            write_id(text, &halves.right)?;
-            text.push(')')
-        }
+        pana_id::Node::Single(number) => write_pair(text, &pana_id::Halves::of_single(*number)),
+        pana_id::Node::Pair(halves) => write_pair(text, halves),
     }
+}
+
+/// Appends the text of the id with these halves.
+#[cycle(ids)]
+#[tactic(auto, using(crate::proofs::Appends::appends))]
+fn write_pair(text: &mut String, halves: &pana_id::Halves) -> Result<(), AllocError>
+    ensures { OnOk result (string_bytes text.new ≡ string_bytes text.old ++ id_text (pair (id_of halves.now.left) (id_of halves.now.right))) }
+{
+    text.push('(')?;
+    write_id(text, &halves.left)?;
+    text.push(',')?;
+    write_id(text, &halves.right)?;
+    text.push(')')
 }
 
 /// Appends the digits of any number: apart, since most have one digit and need no buffer.
