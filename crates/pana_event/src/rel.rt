@@ -4,9 +4,10 @@ ghost use Rattle.pana_event.specs.Event.{Event};
 ghost use Rattle.pana_event.specs.Relation.{IsRelation, rel_name, reverse_of};
 
 /// How one copy relates to another.
-#[derive(Clone, Copy, Debug, PartialEq, Eq)]
+#[derive(Clone, Copy, Debug, Default, PartialEq, Eq)]
 pub enum Rel {
     /// Both know the same updates.
+    #[default]
     Equal,
     /// The other knows all that this one does, and more.
     Older,

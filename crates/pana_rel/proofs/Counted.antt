@@ -1,5 +1,5 @@
 -- What the counts of rows say.
-use Rattle.std.proofs.Common.{◌≡◌, ℕ, zero, suc, Bool, true, false, ◌+◌, ◌-◌, ◌<◌, List, [], ◌∷◌, length, get_or, map, not, refl, ap, sym, subst, ◌∙◌, inl, inr, count_by, arith, ◌↔◌}
+use Rattle.std.proofs.Common.{◌≡◌, ℕ, zero, suc, Bool, true, false, ◌+◌, ◌<◌, List, [], ◌∷◌, length, get_or, map, not, refl, ap, sym, subst, ◌∙◌, inl, inr, count_by, arith, ◌↔◌}
 use Rattle.std.specs.Prelude.{nat_lt, ◌==◌}
 use Rattle.std.specs.List.{list_any}
 use Rattle.std.proofs.lemmas.Bool.{cases_Bool, lt-ltb, ltb-false}

@@ -16,7 +16,8 @@ use std::marker::Model;
 /// The relation of each ordered pair of some copies.
 ///
 /// A copy is Equal to itself, and the relations of a pair in its two directions are each other's reverse. The
-/// copies are kept by rising number. A relation takes a byte, so 256 copies take 64 KB.
+/// copies are kept by rising number. A relation takes a byte, so 256 copies take 64 KB. While there is room for no more than
+/// 16 copies, no row takes an allocation of its own.
 pub struct PairTable {
     alloc: Global,
     copies: Vec<u64>,

@@ -7,6 +7,7 @@ ghost use Rattle.pana_rel.specs.inner.Square.{AreCounted};
 
 use crate::counts::Counts;
 use pana_event::Rel;
+use smallvec::SmallVec;
 use std::alloc::{AllocError, Global};
 use std::marker::Model;
 
@@ -44,38 +45,38 @@ fn kinds_of_few(rels: &[Rel]) -> FewKinds
     }
 }
 
-/// The relations of a copy to all copies in order, itself among them, a byte each.
+/// The relations of a copy to all copies in order, itself among them, a byte each. Up to 16 stand in the row itself, and more in an
+/// allocation.
 #[derive(Drop)]
 pub(crate) struct Row {
-    rels: Vec<Rel>,
+    rels: SmallVec<Rel, 16>,
 }
 
 impl Model for Row {
-    ghost use Rattle.std.specs.Prelude.{vec_capacity};
     ghost use Rattle.pana_rel.specs.inner.Square.{Relations};
 
     ghost Value = { Relations };
 
-    ghost view = { λ row. record { items = row.rels.items; room = vec_capacity row.rels } };
+    ghost view = { λ row. record { items = row.rels.items; room = row.rels.capacity } };
 }
 
 impl Row {
-    /// A row without relations, with room for some.
+    /// A row without relations, with room for so many or more. Takes no memory for up to 16.
     pub(crate) fn with_room(alloc: Global, room: usize) -> Result<Row, AllocError>
         ensures items { IfOk result (λ row. row.items ≡ []) }
-        ensures room { IfOk result (λ row. row.room ≡ room) }
+        ensures room { IfOk result (λ row. room ≤ row.room) }
     {
         Ok(Row {
-            rels: Vec::with_capacity(alloc, room)?,
+            rels: SmallVec::with_capacity(alloc, room)?,
         })
     }
 
-    /// A row without relations or room. Takes no memory; O(1).
+    /// A row without relations. Takes no memory; O(1).
     pub(crate) fn empty(alloc: Global) -> Row
         ensures { result.items ≡ [] }
     {
         Row {
-            rels: Vec::new(alloc),
+            rels: SmallVec::new(alloc),
         }
     }
 
