@@ -2,18 +2,19 @@
 use Rattle.pana_hall.proofs.Words.{◌≡◌, ℕ, ◌+◌, ◌<◌, ◌≤◌, Bool, true, false, cond, not, ◌&&◌, ◌||◌, ◌==◌, nat_le, List, [], ◌∷◌, ◌++◌, length, filter, reverse, find, count_by, Option, Some, None}
 use Rattle.pana_hall.proofs.Words.{option_map, option_and_then, suc, nat_lt, slice_index_or, map, then_some, AllByRecursion, list_any, refl, sym, ap, ◌∙◌, subst, inl, inr, arith, or-true}
 use Rattle.pana_hall.proofs.Words.{reverse-append, map-append, length-filter, map-map, Place, same_place, Spot, Table, kept, Entry, entry_at, has, copy_rows, divides, lives, PlaceTaken, FamilyFull}
-use Rattle.pana_hall.proofs.Words.{TooDeep, KeptRows, ends_in, last_place, families, Copy, copies_of, copy_in, living, known_to, pending, is_last, displaced, taken, taken_from, taken_since}
+use Rattle.pana_hall.proofs.Words.{TooDeep, OtherFamily, KeptRows, ends_in, last_place, families, Copy, copies_of, copy_in, living, known_to, pending, is_last, displaced, taken, taken_from, taken_since}
 use Rattle.pana_hall.proofs.Words.{family_full, too_deep, pending_with, unknown, other_family, first, is_of, IsAccepted, layer, of_each, AreSpots, family_of, undone_of, families_of, rows_of}
 use Rattle.pana_hall.proofs.Words.{stamp_rows, spot_of, IsThere, other_there, filter-append, nat_tests, set_in, StandsFor, all_listed, listed, ListedFamily, begun, family_row, sets_at, StampRow}
-use Rattle.pana_hall.proofs.Words.{seed_row, eq-eqb, or_comm, cases_Bool, map-id, reverse-reverse, unknown_family, touch_in, of_known}
+use Rattle.pana_hall.proofs.Words.{seed_row, eq-eqb, or_comm, cases_Bool, map-id, reverse-reverse, unknown_family, touch_in, of_known, is_some, ArePlaced, slice_get_within}
 use Rattle.pana_copies.proofs.Kept.{one_place}
 use Rattle.pana_hall.proofs.Lists.{is_last_push, each_map, each_of, each_unmap, each_weaker, any_push, is_last-push, entry_at_place, slice_get-each, found_by}
 use Rattle.pana_hall.proofs.Sound.{accepted_is_sound, all_none, beside, living_fit, none_false}
 use Rattle.pana_hall.proofs.Tables.{own_copy, ends_at, layer_now, each_has, pending_each}
 use Rattle.pana_hall.proofs.Places.{same_place-itself, none_passes, living_found, back_at}
-use Rattle.pana_hall.proofs.Stood.{count_rows, copies_sets, layers_stand, lives_rows, stood_one}
+use Rattle.pana_hall.proofs.Stood.{count_rows, copies_sets, layers_stand, lives_rows, rows_living, stood_one}
 use Rattle.pana_hall.proofs.Ready.{place_spots, at_spots, family_of as family_of_copy, given_back}
-use Rattle.pana_hall.proofs.{Listed.entry_within, Moves.found_number, Knowns.IsCopyIn, Knowns.found_there, Knowns.set_known}
+use Rattle.pana_hall.specs.{inner.Families.family_at}
+use Rattle.pana_hall.proofs.{Listed.entry_within, Listed.found_at, Listed.found_entry, Moves.found_number, Knowns.IsCopyIn, Knowns.found_there, Knowns.set_known}
 use Rattle.pana_family.specs.Table as table
 use Rattle.pana_family.specs.{Board.board_newest, Board.board_split, Stands.AreSame, Table.Known}
 use Rattle.pana_family.specs.{Stamps.AreStamps, Stamps.stamps_in, Stamps.text_of}
@@ -139,6 +140,45 @@ back_place journal m c it undone accepted at_end at moves is =
       ap (option_and_then (λ copy. taken_from copy (living journal))) back.is,
       back.number,
     )
+
+-- a copy lives exactly where the family of its entry has it
+pub has_living : (journal : List Entry) (list : List KeptRows) (positions : List ℕ) (n : ℕ) (it : KeptRows) → IsAccepted 8 journal → list ≡ families_of journal → ArePlaced journal positions
+    → family_at list positions n ≡ Some it → lives it.rows n ≡ is_some (copy_in (living journal) n)
+has_living journal list positions n it accepted listed placed at =
+    let within = at_within list positions n it at in
+    let is : Some it ≡ Some (family_of journal (families journal n)) = sym at ∙ found_at journal list positions n listed placed within.0 (subst (λ k. n ≤ k) placed.count within.1) in
+    let same : it ≡ family_of journal (families journal n) = cc in
+    ap (λ (k : KeptRows). lives k.rows n) same ∙ rows_living journal n accepted
+  where
+    at_within : (list : List KeptRows) (positions : List ℕ) (n : ℕ) (it : KeptRows) → family_at list positions n ≡ Some it → (0 < n) × (n ≤ length positions)
+    at_within list positions n it at = grind (arith, nat_tests, slice_get_within)
+
+-- and none does without an entry
+pub none_living : (journal : List Entry) (list : List KeptRows) (positions : List ℕ) (n : ℕ) → IsAccepted 8 journal → list ≡ families_of journal → ArePlaced journal positions
+    → family_at list positions n ≡ None → is_some (copy_in (living journal) n) ≡ false
+none_living journal list positions n accepted listed placed none =
+    elim (copy_in (living journal) n) as (λ o. copy_in (living journal) n ≡ o → is_some o ≡ false) [
+      | None ↦ λ e. refl
+      | Some copy ↦ λ e.
+          let within = found_entry journal n copy accepted e in
+          let odd : None ≡ Some (family_of journal (families journal n)) = sym none ∙ found_at journal list positions n listed placed within.0 within.1 in
+          absurd (cc)
+    ] refl
+
+-- where it does, it is found
+pub is_living : (journal : List Entry) (n : ℕ) → is_some (copy_in (living journal) n) ≡ true → (copy : Copy) × (copy_in (living journal) n ≡ Some copy)
+is_living journal n lives = grind (arith, nat_tests)
+
+-- two living copies are of two families where the numbers of these differ
+pub apart_is : (journal : List Entry) (a b of other : ℕ) → IsAccepted 8 journal → is_some (copy_in (living journal) a) ≡ true → is_some (copy_in (living journal) b) ≡ true
+    → of ≡ families journal a → other ≡ families journal b → then_some (not (of == other)) OtherFamily ≡ other_family a b (living journal)
+apart_is journal a b of other accepted first second of_is other_is =
+    let sound = accepted_is_sound 8 journal accepted in
+    let x = is_living journal a first in
+    let y = is_living journal b second in
+    let x_family = family_of_copy journal a x.0 sound x.1 in
+    let y_family = family_of_copy journal b y.0 sound y.1 in
+    grind (arith, nat_tests, x.1, y.1)
 
 -- a copy that is kept lives
 pub found_spot : (journal : List Entry) (copies : Table) (n : ℕ) (spot : Spot) → AreSpots journal copies → kept copies n ≡ Some spot → (copy : Copy) × (copy_in (living journal) n ≡ Some copy) × (spot_of copy ≡ spot)

@@ -1,7 +1,7 @@
 -- What a sighting comes to, by the numbers of copies.
 use Rattle.pana_hall.proofs.Words.{◌≡◌, ℕ, Bool, true, false, not, ◌&&◌, ◌||◌, ◌==◌, List, [], ◌∷◌, map, filter, find, list_any, Option, Some, None, is_none, is_some, option_map, option_and_then, unwrap_or}
 use Rattle.pana_hall.proofs.Words.{filter_agree, refl, sym, ap, ap₂, ◌∙◌, arith, nat_tests, map-map, then_some, AllByRecursion, Place, Table, Entry, Copy, copy_in, living, is_of, IsAccepted, AreSpots}
-use Rattle.pana_hall.proofs.Words.{AreRising, has}
+use Rattle.pana_hall.proofs.Words.{has}
 use Rattle.std.proofs.Common.{◌↔◌}
 use Rattle.std.proofs.lemmas.Slice.Eq.{bytes_eq-Decides}
 use Rattle.pana_copies.specs.Spots as tables

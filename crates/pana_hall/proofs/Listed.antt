@@ -4,11 +4,12 @@ use Rattle.pana_hall.proofs.Words.{slice_index_or, is_none, then_some, bytes_eq,
 use Rattle.pana_hall.proofs.Words.{length-append, length-map, Entry, is_register, families, begun_or_joined, subject, Copy, copy_in, living, begun, holding, holdings, AreRising, family_of_next}
 use Rattle.pana_hall.proofs.Words.{AllByRecursion, nat_tests, Place, Table, kept, Report, Register, report_refusal, KeptRows, new_kept, IsFree, all_listed, listed, ListedFamily, next_entry}
 use Rattle.pana_hall.proofs.Words.{AreSpots, IsReady, IsReadyAt, families_of, family_of, position_for, entry_at, IsAccepted, slice_set, cases_order, get_or_from_slice_get, slice_get-map, map-set}
-use Rattle.pana_hall.proofs.Words.{set-get_or, ArePlaced, position_of_subject, IsWithin}
+use Rattle.pana_hall.proofs.Words.{set-get_or, ArePlaced, position_of_subject, IsWithin, count_by, leb-false, length-filter}
+use Rattle.std.proofs.lemmas.List.Sums.{count_by-le-length}
 use Rattle.pana_hall.specs.{inner.Kept.IsKept, declared.next.Step.Step, declared.next.Step.TheVariants.Begin, declared.next.Step.TheVariants.Change, declared.next.Step.TheVariants.Settle, inner.Families.family_at, inner.Families.position_at}
 use Rattle.circular_buffer.proofs.Places.{slice_get-set_same}
 use Rattle.pana_hall.proofs.Lists.{rises_filter, each_filter, each_map, each_weaker, map_same, slice_get-each, entry_at_place, slice_get-append, slice_get-push, under, rises_map, found_by, at-append, none_under, rises_each, at-push}
-use Rattle.pana_hall.proofs.Sound.{none_against, family_new, accepted_is_sound, family_old, living_fit, LivesIn, named_report}
+use Rattle.pana_hall.proofs.Sound.{none_against, none_false, family_new, accepted_is_sound, family_old, living_fit, LivesIn, named_report}
 use Rattle.pana_hall.proofs.Moves.{IsWell, none_below, subject_none, subject_named}
 use Rattle.pana_hall.proofs.{Places.living_below, Places.spots_next, Tables.begun-next, Histories.family_begun, Histories.family_other, Ready.accepts_next, Ready.free_spots}
 use Rattle.pana_hall.proofs.{Runs.next_accepted, Runs.rising}
@@ -239,7 +240,7 @@ found_at journal list positions n listed placed some within =
     let at = placed.at n some within in
     grind (arith, nat_tests, get_map)
 
-module _ (journal : List Entry) (by : List ℕ) (report : Report) (list : List KeptRows) (positions : List ℕ) (copies : Table) (said : List (Option ℕ)) where
+module _ (journal : List Entry) (by : List ℕ) (report : Report) (list : List KeptRows) (positions : List ℕ) (copies : Table) (said : List ℕ) where
   -- a report has a position for its family
   pub has_position : IsKept journal list positions copies said → report_refusal 8 journal (living journal) by report ≡ None → (p : ℕ) × (position_for list positions report ≡ Some p)
   has_position all free =
@@ -272,6 +273,16 @@ module _ (journal : List Entry) (by : List ℕ) (report : Report) (list : List K
             slice_get-append (begun journal) more p (families journal m) (ap (slice_get (begun journal)) (sym same) ∙ old.2)
       ] refl at ∙ ap (λ k. Some k) (sym (family_new journal entry))
 
+  -- and is no more than the journal takes entries
+  pub position_few : IsKept journal list positions copies said → report_refusal 8 journal (living journal) by report ≡ None → (p : ℕ) → position_for list positions report ≡ Some p → p ≤ 1000000
+  position_few all free p at =
+      let entry = next_entry journal by report in
+      let next = journal ++ entry ∷ [] in
+      let within = slice_get_within (begun next) p _ (own_position all free p at) in
+      let few : length journal < 1000000 = leb-false 1000000 (length journal) (none_false _ _ (none_against 8 journal (living journal) by report free).0) in
+      let counted : length (begun next) ≡ count_by (λ e. is_register e.report) next = length-map (filter (λ e. is_register e.report) next) (λ e. e.number) ∙ length-filter (λ e. is_register e.report) next in
+      omega (arith, within, few, counted, count_by-le-length (λ e. is_register e.report) next, length-append journal (entry ∷ []))
+
   pub ready_for : IsKept journal list positions copies said → report_refusal 8 journal (living journal) by report ≡ None → (p : ℕ) → position_for list positions report ≡ Some p
       → IsReadyAt journal by report list p copies
   ready_for all free p at =
@@ -286,7 +297,7 @@ module _ (journal : List Entry) (by : List ℕ) (report : Report) (list : List K
 
   -- what is kept then
   pub kept_next : IsKept journal list positions copies said → report_refusal 8 journal (living journal) by report ≡ None → (p : ℕ) → position_for list positions report ≡ Some p
-      → (list' : List KeptRows) (copies' : Table) (said' : List (Option ℕ)) → AreContents (journal ++ next_entry journal by report ∷ []) said' → list' ≡ families_of (journal ++ next_entry journal by report ∷ []) → AreSpots (journal ++ next_entry journal by report ∷ []) copies'
+      → (list' : List KeptRows) (copies' : Table) (said' : List ℕ) → AreContents (journal ++ next_entry journal by report ∷ []) said' → list' ≡ families_of (journal ++ next_entry journal by report ∷ []) → AreSpots (journal ++ next_entry journal by report ∷ []) copies'
       → IsKept (journal ++ next_entry journal by report ∷ []) list' (positions ++ p ∷ []) copies' said'
   kept_next all free p at list' copies' said' contents listed spots =
       let entry = next_entry journal by report in

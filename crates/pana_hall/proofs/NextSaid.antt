@@ -1,9 +1,10 @@
 -- That the sayings of a report which nothing stands against are those of the next entry.
-use Rattle.pana_hall.proofs.Words.{◌≡◌, ℕ, ◌+◌, ◌<◌, ◌≤◌, List, [], ◌∷◌, ◌++◌, length, Option, Some, None, IfSome, option_map, refl, sym, ap, ◌∙◌, subst, inl, inr, arith, length-append}
+use Rattle.pana_hall.proofs.Words.{◌≡◌, ℕ, ◌+◌, ◌<◌, ◌≤◌, List, [], ◌∷◌, ◌++◌, length, Option, Some, None, IfSome, option_map, refl, sym, ap, ◌∙◌, subst, inl, inr, arith, nat_tests, length-append}
 use Rattle.pana_hall.proofs.Words.{Entry, Report, Withdraw, copy_in, families, begun_or_joined, subject, content_by, copies_of, living, report_refusal, next_entry, IsAccepted, IsWithin}
-use Rattle.pana_hall.proofs.Words.{AreContents, AreSayings, KeptRows, all_written, content_at, entry_of, first_said, last_before, said_before, said_in, say, second_said}
+use Rattle.pana_hall.proofs.Words.{AreContents, AreSayings, Content, KeptRows, all_written, content_in, content_at, entry_of, first_said, last_before, said_before, said_in, say, second_said}
 use Rattle.std.proofs.Math.Path.{fun_ext}
 use Rattle.pana_hall.specs.inner.Kept.{family_of as family_kept}
+use Rattle.pana_hall.specs.inner.Contents.{listed_entry}
 use Rattle.pana_hall.specs.declared.contents.Saying.{Saying}
 use Rattle.pana_hall.specs.declared.contents.Sayings.{Sayings}
 use Rattle.pana_hall.proofs.Moves.{Names}
@@ -13,7 +14,7 @@ use Rattle.pana_hall.proofs.Places.{left_here, living_withdrawn}
 use Rattle.pana_hall.proofs.Ready.{accepts_next}
 use Rattle.pana_hall.proofs.Runs.{next_accepted}
 use Rattle.pana_hall.proofs.Listed.{entry_within, lives_within}
-use Rattle.pana_hall.proofs.Said.{fit, first_of, named_of, second_of, said_next, said_confirmed, said_withdrawn, given_first, given_second}
+use Rattle.pana_hall.proofs.Said.{IsTold, living_told, fit, first_of, named_of, second_of, said_next, said_confirmed, said_withdrawn, given_first, given_second}
 
 -- the sayings are of these copies
 abbrev Bounds : ℕ → ℕ → Type 0
@@ -39,7 +40,7 @@ module _ (journal : List Entry) (by : List ℕ) (report : Report) (accepted : Is
   ]
 
   -- a report that is no Withdraw
-  pub next_sayings : (contents : List (Option ℕ)) (x : Option ℕ) (n : ℕ) (sayings : Sayings) → AreContents journal contents → ((m : ℕ) → report ≡ Withdraw m → ⊥)
+  pub next_sayings : (contents : List ℕ) (x : Option ℕ) (n : ℕ) (sayings : Sayings) → AreContents journal contents → ((m : ℕ) → report ≡ Withdraw m → ⊥)
       → x ≡ entry_of (content_by (length journal + 1) report (living journal)) → n ≡ length journal
       → ((entries : ℕ → Option ℕ) (number : ℕ) → all_written sayings entries number ≡ say (second_said report) x (say (first_said (n + 1) report) x entries) number)
       → option_map (λ s. s.copy) sayings.first ≡ first_said (n + 1) report → option_map (λ s. s.copy) sayings.second ≡ second_said report
@@ -79,7 +80,7 @@ module _ (journal : List Entry) (by : List ℕ) (m : ℕ) (accepted : IsAccepted
       let long = length-append journal (next_entry journal by (Withdraw m) ∷ []) in
       (within.0, omega (arith, within.1, long))
 
-  pub withdrawn_sayings : (contents : List (Option ℕ)) (it : KeptRows) (x y : Option ℕ) (report : Report) (sayings : Sayings) → AreContents journal contents
+  pub withdrawn_sayings : (contents : List ℕ) (it : KeptRows) (x y : Option ℕ) (report : Report) (sayings : Sayings) → AreContents journal contents
       → it ≡ family_kept journal (families journal m) → x ≡ (last_before it.undo).first → y ≡ (last_before it.undo).second → ends.last.report ≡ report
       → ((entries : ℕ → Option ℕ) (number : ℕ) → all_written sayings entries number ≡ say (second_said report) y (say (first_said m report) x entries) number)
       → option_map (λ s. s.copy) sayings.first ≡ first_said m report → option_map (λ s. s.copy) sayings.second ≡ second_said report
@@ -101,12 +102,24 @@ module _ (journal : List Entry) (by : List ℕ) (m : ℕ) (accepted : IsAccepted
             ∙ said_withdrawn accepted ends (next_entry journal by (Withdraw m)) refl number;
       }
 
+-- an entry that says what a living copy holds is kept as it is
+said_listed : (journal : List Entry) (c : ℕ) → IsAccepted 8 journal → listed_entry (said_in (living journal) c) ≡ said_in (living journal) c
+said_listed journal c accepted = by_content (content_in (living journal) c) (living_told journal c accepted)
+  where
+    by_content : (o : Option Content) → IfSome o (IsTold journal) → listed_entry (entry_of o) ≡ entry_of o
+    by_content None told = refl
+    by_content (Some x) told = grind (arith, nat_tests)
+
 -- so what is written is kept of the journal with the entry
-pub said_kept : (journal : List Entry) (entry : Entry) (contents after : List (Option ℕ)) (sayings : Sayings) → entry.number ≡ length journal + 1 → AreContents journal contents → AreSayings journal entry contents sayings
-    → length after ≡ length contents + 1 → ((number : ℕ) → content_at after number ≡ all_written sayings (content_at contents) number) → AreContents (journal ++ next_entry journal entry.by entry.report ∷ []) after
-said_kept journal entry contents after sayings next kept says count at =
+pub said_kept : (journal : List Entry) (entry : Entry) (contents after : List ℕ) (sayings : Sayings) → IsAccepted 8 journal → report_refusal 8 journal (living journal) entry.by entry.report ≡ None
+    → entry.number ≡ length journal + 1 → AreContents journal contents → AreSayings journal entry contents sayings
+    → length after ≡ length contents + 1 → ((number : ℕ) → content_at after number ≡ listed_entry (all_written sayings (content_at contents) number)) → AreContents (journal ++ next_entry journal entry.by entry.report ∷ []) after
+said_kept journal entry contents after sayings accepted free next kept says count at =
+    let accepted_next = next_accepted 8 journal (next_entry journal entry.by entry.report) accepted (accepts_next journal entry.by entry.report free) in
     let same : entry ≡ next_entry journal entry.by entry.report = ap (λ (n : ℕ). record { number = n; by = entry.by; report = entry.report }) next in
     record {
       count = count ∙ ap (λ n. n + 1) kept.count ∙ sym (length-append journal (next_entry journal entry.by entry.report ∷ []));
-      at = λ number. at number ∙ says.at number ∙ ap (λ e. said_in (living (journal ++ e ∷ [])) number) same;
+      at = λ number.
+          at number ∙ ap listed_entry (says.at number ∙ ap (λ e. said_in (living (journal ++ e ∷ [])) number) same)
+          ∙ said_listed (journal ++ next_entry journal entry.by entry.report ∷ []) number accepted_next;
     }

@@ -132,7 +132,7 @@ shared_is journal a b n m s t first second is_a is_b at_n at_m =
 
 -- What the next entry says.
 
-pub said_next : (journal : List Entry) (by : List ℕ) (report : Report) (contents : List (Option ℕ)) (x : Option ℕ) → IsAccepted 8 journal → report_refusal 8 journal (living journal) by report ≡ None → AreContents journal contents
+pub said_next : (journal : List Entry) (by : List ℕ) (report : Report) (contents : List ℕ) (x : Option ℕ) → IsAccepted 8 journal → report_refusal 8 journal (living journal) by report ≡ None → AreContents journal contents
     → is_of_copies report ≡ true → x ≡ entry_of (content_by (length journal + 1) report (living journal)) → (a : ℕ)
     → say (second_said report) x (say (first_said (length journal + 1) report) x (content_at contents)) a ≡ said_in (living (journal ++ next_entry journal by report ∷ [])) a
 said_next journal by report contents x accepted free kept is new a =
@@ -146,7 +146,7 @@ said_next journal by report contents x accepted free kept is new a =
     ∙ sym (contents_report n report (living journal) (living_below 8 n journal sound refl) fit a)
     ∙ ap (λ l. said_in l a) (sym more)
 
-pub said_confirmed : (journal : List Entry) (by : List ℕ) (m : ℕ) (contents : List (Option ℕ)) → AreContents journal contents → (a : ℕ) → content_at contents a ≡ said_in (living (journal ++ next_entry journal by (Confirm m) ∷ [])) a
+pub said_confirmed : (journal : List Entry) (by : List ℕ) (m : ℕ) (contents : List ℕ) → AreContents journal contents → (a : ℕ) → content_at contents a ≡ said_in (living (journal ++ next_entry journal by (Confirm m) ∷ [])) a
 said_confirmed journal by m contents kept a = kept.at a ∙ ap (λ l. said_in l a) (sym (living_confirmed journal (next_entry journal by (Confirm m)) m refl))
 
 -- A Withdraw says what was said before.

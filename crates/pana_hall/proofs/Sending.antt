@@ -1,7 +1,6 @@
 -- A hall may go to another thread: what it has names no thread.
 use denote.Param.SendFields.{declared_send, variants_send}
 use denote.Param.Send.{IsSend, sendable, view_send}
-use denote.Builtin as builtin
 use Rattle.std.proofs.boxed.Box.TheSendSync as boxes
 use Rattle.std.proofs.vec.Vec.TheSendSync as vecs
 use Rattle.std.proofs.option.Option.TheSendSync as options
@@ -39,7 +38,7 @@ families_send : IsSend families.the_row
 families_send = declared_send families.the_type (vecs.the_send _ _ _ listed_family_send global.the_send frees.the_frees, (vecs.the_send _ _ _ (search sendable) global.the_send frees.the_frees, tt))
 
 contents_send : IsSend contents.the_row
-contents_send = declared_send contents.the_type (vecs.the_send _ _ _ (options.the_send builtin.u32 (search sendable)) global.the_send frees.the_frees, tt)
+contents_send = declared_send contents.the_type (vecs.the_send _ _ _ (search sendable) global.the_send frees.the_frees, tt)
 
 state_send : IsSend state.the_row
 state_send = declared_send state.the_type (journals.the_send, (families_send, (copy_tables.the_send, (contents_send, tt))))

@@ -1,7 +1,7 @@
 -- Boards and holdings, as they are answered.
 use Rattle.pana_hall.proofs.Words.{◌≡◌, ℕ, Bool, List, [], ◌∷◌, map, filter, Option, Some, IsSome, is_some, option_map, unwrap_or, ◌+◌, ◌≤◌, nat_le, ◌++◌, AllByRecursion}
 use Rattle.pana_hall.proofs.Words.{refl, sym, ap, ◌∙◌, subst, arith, Place, Table, kept, Entry, CopyCounts, Known, BoardRow, Copy, copy_in, living, all_known, is_of, sets_of, family_row}
-use Rattle.pana_hall.proofs.Words.{holdings, IsAccepted, sets_at, spot_of, AreSpots, placed_row, option_to_list, Holding, AreRising, map-map, nat_tests, row_of_sets}
+use Rattle.pana_hall.proofs.Words.{IsAccepted, sets_at, spot_of, AreSpots, placed_row, option_to_list, Holding, AreRising, map-map, nat_tests, row_of_sets}
 use Rattle.pana_hall.proofs.Words.{true}
 use Rattle.pana_rel.specs.Board.{counts_of, is_split, newest_of}
 use Rattle.pana_family.specs.Board as board

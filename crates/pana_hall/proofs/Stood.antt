@@ -5,7 +5,7 @@ use Rattle.pana_hall.proofs.Words.{Edit, Reconcile, Merge, Relocate, Remove, Ent
 use Rattle.pana_hall.proofs.Words.{all_known, is_of, sets_of, against, unknown, family_full, same, too_deep, Accepts, IsAccepted, layer, family_of_next, FamilyReport, IsKept, StampRow, Place}
 use Rattle.pana_hall.proofs.Words.{StandsFor, AreBefore, copy_rows, divides, lives, seed_row, CanReport, In, IsAbove, Known, same_copies, One, same_length, empty_kept, NamesOf, effective}
 use Rattle.pana_hall.proofs.Words.{is_of_copies, sets_at, rows_after, stamp_rows, ◌^◌, leb-false, is_duplicate, duplicates_in, AreSound, deepest, AreBelow, same_before, same_living, one_known}
-use Rattle.pana_hall.proofs.Words.{divides_is, seed_kept, seed_sound, undivided_deep, IsTouched, numbers_reported, reported, rows_by}
+use Rattle.pana_hall.proofs.Words.{divides_is, seed_kept, seed_sound, undivided_deep, IsTouched, numbers_reported, reported, rows_by, is_some, list_any, is_in, ◌==◌}
 use Rattle.pana_hall.specs.{Living.copies_of, laws.Sets.knowns_of, StampRows.rows_of}
 use Rattle.pana_hall.proofs.Lists.{each_last, each_left, each_weaker}
 use Rattle.pana_hall.proofs.Moves.{Lives, Names, copies_of-push, made_of}
@@ -249,3 +249,24 @@ count_rows journal family accepted = counted 0 family journal (accepted_is_sound
 pub lives_rows : (journal : List Entry) (family c : ℕ) (copy : Copy) → IsAccepted 8 journal → copy_in (living journal) c ≡ Some copy → families journal c ≡ family → lives (rows_of (layer 8 0 family journal)) c ≡ true
 lives_rows journal family c copy accepted found of =
     lives_there (layer 8 0 family journal) c (layers_stand journal accepted 0 family) (copy, own_copy journal family c (accepted_is_sound 8 journal accepted) of ∙ found)
+
+-- a copy lives in the rows of these entries exactly where they make it
+any_copies : (table : List Known) (c : ℕ) → is_in table c ≡ list_any (λ t. t.copy == c) (by_table.copies_of table)
+any_copies [] c = refl
+any_copies (t ∷ table) c = grind (arith, nat_tests, any_copies table c)
+
+any_found : (copies : List Copy) (c : ℕ) → list_any (λ t. t.copy == c) (all_known copies) ≡ is_some (copy_in copies c)
+any_found [] c = refl
+any_found (x ∷ copies) c = grind (arith, nat_tests, any_found copies c)
+
+-- a copy lives exactly where the rows of its family have it
+pub rows_living : (journal : List Entry) (c : ℕ) → IsAccepted 8 journal → lives (rows_of (layer 8 0 (families journal c) journal)) c ≡ is_some (copy_in (living journal) c)
+rows_living journal c accepted =
+    let family = families journal c in
+    let entries = layer 8 0 family journal in
+    let stood = layers_stand journal accepted 0 family in
+    same_living (rows_of entries) (knowns_of entries) c stood.stands.same
+    ∙ any_copies (knowns_of entries) c
+    ∙ ap (list_any (λ t. t.copy == c)) stood.copies
+    ∙ any_found (copies_of entries) c
+    ∙ ap is_some (own_copy journal family c (accepted_is_sound 8 journal accepted) refl)

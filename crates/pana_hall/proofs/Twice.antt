@@ -116,14 +116,14 @@ module _ (journal : List Entry) (by : List ℕ) (first second : Report) (accepte
         new_there (next_ready (reported_kept (n + 1) of before it) (first_made n n_is of about _ before refl refl)) (n + 1) (ap (λ k. k + 1) n_is ∙ sym longer)
 
   -- what is said of the second's copy stays as it is
-  pub said_other : (contents : List (Option ℕ)) → AreContents journal contents → content_at contents two.b ≡ said_in (living next) two.b
+  pub said_other : (contents : List ℕ) → AreContents journal contents → content_at contents two.b ≡ said_in (living next) two.b
   said_other contents are =
       let x = entry_of (content_by (length journal + 1) first (living journal)) in
       sym (ap (λ r. say (second_said r) x (say (first_said (length journal + 1) r) x (content_at contents)) two.b) two.first_is ∙ ap (λ t. cond t x (content_at contents two.b)) (ne_eqb two.b two.a (λ h. two.other (sym h))))
       ∙ said_next journal by first contents x accepted free are (ap is_of_copies two.first_is) refl two.b
 
   -- what is before it
-  pub before_second : (contents : List (Option ℕ)) (n : ℕ) → AreContents journal contents → earlier None (option_and_then (content_at contents) (first_said n second)) None ≡ before_of (Some (next_entry next by second)) (living next)
+  pub before_second : (contents : List ℕ) (n : ℕ) → AreContents journal contents → earlier None (option_and_then (content_at contents) (first_said n second)) None ≡ before_of (Some (next_entry next by second)) (living next)
   before_second contents n are =
       ap (λ r. earlier None (option_and_then (content_at contents) (first_said n r)) None) two.second_is ∙ ap (λ x. earlier None x None) (said_other contents are)
       ∙ ap (λ r. before_of (Some (next_entry next by r)) (living next)) (sym two.second_is)
@@ -193,7 +193,7 @@ edit_content m k b None copies is = refl
 edit_content m k b (Some s) copies is = ap (λ x. Some x) is
 
 pub second_sayings : (journal : List Entry) (by : List ℕ) (report : Report) (b : ℕ) (sum : Option (List ℕ)) → report ≡ Edit b sum → IsAccepted 8 journal → report_refusal 8 journal (living journal) by report ≡ None → (n : ℕ) → n ≡ length journal
-    → (contents : List (Option ℕ)) (sayings : Sayings) → AreContents journal contents
+    → (contents : List ℕ) (sayings : Sayings) → AreContents journal contents
     → ((entries : ℕ → Option ℕ) (number : ℕ) → all_written sayings entries number ≡ said_by_sum (n + 1) report entries number)
     → option_map (λ s. s.copy) sayings.first ≡ first_said (n + 1) report → option_map (λ s. s.copy) sayings.second ≡ second_said report → AreSayings journal (next_entry journal by report) contents sayings
 second_sayings journal by report b sum is accepted free n n_is contents sayings are written first second =
@@ -218,7 +218,7 @@ rising_once low (m ∷ numbers) (suc p) zero n rises at also =
 rising_once low (m ∷ numbers) (suc p) (suc q) n rises at also = ap suc (rising_once m numbers p q n rises.1 at also)
 
 -- both are of the family at one position
-pub second_position : (journal : List Entry) (first second : Report) (list : List KeptRows) (positions : List ℕ) (copies : Table) (said : List (Option ℕ)) (p : ℕ) → IsKeptOf journal list positions copies said → AreTwo journal first second
+pub second_position : (journal : List Entry) (first second : Report) (list : List KeptRows) (positions : List ℕ) (copies : Table) (said : List ℕ) (p : ℕ) → IsKeptOf journal list positions copies said → AreTwo journal first second
     → position_for list positions first ≡ Some p → position_for list positions second ≡ Some p
 second_position journal first second list positions copies said p all two at =
     let first_there = has_copy (copy_in (living journal) two.a) two.first_lives in
@@ -234,7 +234,7 @@ second_position journal first second list positions copies said p all two at =
     ap (λ r. position_for list positions r) two.second_is ∙ other.1 ∙ ap (λ k. Some k) (same ∙ sym p_is)
 
 -- also once the first is made
-pub second_placed : (journal : List Entry) (by : List ℕ) (first second : Report) (list : List KeptRows) (positions : List ℕ) (copies : Table) (said : List (Option ℕ)) (p : ℕ) → IsKeptOf journal list positions copies said → AreTwo journal first second
+pub second_placed : (journal : List Entry) (by : List ℕ) (first second : Report) (list : List KeptRows) (positions : List ℕ) (copies : Table) (said : List ℕ) (p : ℕ) → IsKeptOf journal list positions copies said → AreTwo journal first second
     → position_for list positions first ≡ Some p → position_for (families_of (with_report journal by first)) (positions ++ p ∷ []) second ≡ Some p
 second_placed journal by first second list positions copies said p all two at =
     let there = second_position journal first second list positions copies said p all two at in
@@ -251,7 +251,7 @@ module _ (state : State) (first second : Next) (journal : List Entry) (by : List
       (subst (λ r. P journal by r second.entry.report) (ap (λ (e : Entry). e.report) (sym first_is)) (subst (λ r. P journal by one r) (ap (λ (e : Entry). e.report) (sym second_is)) p)))
 
   pub next_two : AreTwo journal one other → report_refusal 8 (with_report journal by one) (living (with_report journal by one)) by other ≡ None → second.position ≡ first.position → HasRoom 2 state
-      → ((said : List (Option ℕ)) → AreContents (with_report journal by one) said → AreSayings (with_report journal by one) (next_entry (with_report journal by one) by other) said second.sayings)
+      → ((said : List ℕ) → AreContents (with_report journal by one) said → AreSayings (with_report journal by one) (next_entry (with_report journal by one) by other) said second.sayings)
       → TakesAfter (next_entry journal by one) (next_entry (with_report journal by one) by other) state.families.list.items first.position (living (with_report journal by one)) second.step → IsSecond state first second
   next_two two free position room sayings step = record {
     two = at_these (λ j b r s. AreTwo j r s) two;
@@ -259,8 +259,8 @@ module _ (state : State) (first second : Next) (journal : List Entry) (by : List
     free = at_these (λ j b r s. report_refusal 8 (with_report j b r) (living (with_report j b r)) b s ≡ None) free;
     position = position;
     room = room;
-    sayings = at_these (λ j b r s. (said : List (Option ℕ)) → AreContents (with_report j b r) said → AreSayings (with_report j b r) second.entry said second.sayings)
-        (subst (λ e. (said : List (Option ℕ)) → AreContents (with_report journal by one) said → AreSayings (with_report journal by one) e said second.sayings) (sym second_is) sayings);
+    sayings = at_these (λ j b r s. (said : List ℕ) → AreContents (with_report j b r) said → AreSayings (with_report j b r) second.entry said second.sayings)
+        (subst (λ e. (said : List ℕ) → AreContents (with_report journal by one) said → AreSayings (with_report journal by one) e said second.sayings) (sym second_is) sayings);
     step = at_these (λ j b r s. TakesAfter first.entry second.entry state.families.list.items first.position (living (with_report j b r)) second.step)
         (subst (λ e. TakesAfter e second.entry state.families.list.items first.position (living (with_report journal by one)) second.step) (sym first_is)
         (subst (λ e. TakesAfter (next_entry journal by one) e state.families.list.items first.position (living (with_report journal by one)) second.step) (sym second_is) step));

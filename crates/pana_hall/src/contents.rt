@@ -1,14 +1,14 @@
 //! What the copies hold, as far as was reported.
 ghost use Rattle.std.specs.Prelude.{◌≡◌, ◌≤◌, ◌<◌, ◌+◌, ℕ, [], length, Option, IfSome, OnOk, option_map, vec_len, vec_capacity};
-ghost use Rattle.pana_hall.specs.inner.Contents.{all_written, content_at, first_said, say, second_said, written};
+ghost use Rattle.pana_hall.specs.inner.Contents.{all_written, content_at, first_said, listed_entry, say, second_said, written};
 
 use pana_journal::Report;
 use std::alloc::{AllocError, Global};
 
 /// For each copy the entry that says what it holds, where one does.
 pub struct Contents {
-    /// At the position of the entry that made the copy.
-    pub entries: Vec<Option<u32>>,
+    /// At the position of the entry that made the copy; 0 where none does.
+    pub entries: Vec<u32>,
 }
 
 impl Drop for Contents {
@@ -46,7 +46,10 @@ impl Contents {
         ensures { result ≡ content_at self.now.entries.items copy }
     {
         let index = copy.checked_sub(1)? as usize;
-        *self.entries.get(index)?
+        match *self.entries.get(index)? {
+            0 => None,
+            entry => Some(entry),
+        }
     }
 
     /// Makes room for so many entries more. Fails only where memory runs out.
@@ -64,9 +67,9 @@ impl Contents {
         requires second { IfSome sayings.second (λ s. (0 < s.copy) × (s.copy ≤ length self.old.entries.items + 1)) }
         ensures count { length self.new.entries.items ≡ length self.old.entries.items + 1 }
         ensures room { vec_capacity self.old.entries ≤ vec_capacity self.new.entries }
-        ensures at { (number : ℕ) → content_at self.new.entries.items number ≡ all_written sayings (content_at self.old.entries.items) number }
+        ensures at { (number : ℕ) → content_at self.new.entries.items number ≡ listed_entry (all_written sayings (content_at self.old.entries.items) number) }
     {
-        self.entries.push_reserved(None);
+        self.entries.push_reserved(0);
         self.write(sayings.first);
         self.write(sayings.second);
     }
@@ -75,10 +78,10 @@ impl Contents {
         requires { IfSome saying (λ s. (0 < s.copy) × (s.copy ≤ length self.old.entries.items)) }
         ensures count { length self.new.entries.items ≡ length self.old.entries.items }
         ensures room { vec_capacity self.old.entries ≤ vec_capacity self.new.entries }
-        ensures at { (number : ℕ) → content_at self.new.entries.items number ≡ written saying (content_at self.old.entries.items) number }
+        ensures at { (number : ℕ) → content_at self.new.entries.items number ≡ listed_entry (written saying (content_at self.old.entries.items) number) }
     {
         if let Some(Saying { copy, entry }) = saying {
-            self.entries[copy as usize - 1] = entry;
+            self.entries[copy as usize - 1] = entry.unwrap_or(0);
         }
     }
 }

@@ -1,5 +1,5 @@
 //! The families that have begun.
-ghost use Rattle.std.specs.Prelude.{◌≡◌, [], option_copied, option_map};
+ghost use Rattle.std.specs.Prelude.{◌≡◌, ◌≤◌, [], option_copied, option_map};
 ghost use Rattle.pana_hall.specs.{Family.family_report, inner.Families.family_at, inner.Families.position_at};
 ghost use Rattle.pana_hall.specs.{inner.Listed.all_listed, inner.Listed.listed, inner.Kept.position_for};
 
@@ -11,7 +11,7 @@ use std::alloc::Global;
 /// The families that have begun, by rising number, and for each entry of the journal the position of its family.
 pub struct Families {
     pub list: Vec<ListedFamily>,
-    pub positions: Vec<usize>,
+    pub positions: Vec<u32>,
 }
 
 impl Drop for Families {
@@ -46,7 +46,8 @@ impl Families {
     pub fn position_of(&self, number: u64) -> Option<usize>
         ensures { result ≡ position_at self.now.positions.items number }
     {
-        self.positions.get(number.checked_sub(1)? as usize).copied()
+        let position = self.positions.get(number.checked_sub(1)? as usize)?;
+        Some(*position as usize)
     }
 
     /// The position for the family of a report: that of its subject's, or for a Register the next one. Takes no memory.
@@ -65,6 +66,14 @@ impl Families {
     {
         self.list.get(self.position_of(number)?)
     }
+}
+
+/// The position of a family as it is kept for an entry.
+pub fn kept_position(position: usize) -> u32
+    requires { position ≤ 1000000 }
+    ensures { result ≡ position }
+{
+    position as u32
 }
 
 /// What a report says of copies of a family that has begun, if it does.

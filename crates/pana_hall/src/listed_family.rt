@@ -47,6 +47,16 @@ impl ListedFamily {
         }
     }
 
+    /// Whether the copy lives in it. Takes no memory.
+    pub fn has(&self, copy: u64) -> bool
+        ensures { result ≡ lives (listed self.now).rows copy }
+    {
+        match self {
+            ListedFamily::New(entry) => *entry == copy,
+            ListedFamily::Changed(it) => it.family().has(copy),
+        }
+    }
+
     /// Whether it has a living copy. Takes no memory.
     pub fn has_copies(&self) -> bool
         ensures { result ≡ nat_lt 0 (length (copy_rows (listed self.now).rows)) }

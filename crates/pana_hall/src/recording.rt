@@ -14,6 +14,7 @@ ghost use Rattle.pana_journal.specs.declared.entry.Entry.{Entry as OfJournal};
 
 use crate::changing::{apply_change, before, prepare_change, withdraw};
 use crate::contents::Contents;
+use crate::families::kept_position;
 use crate::listed_family::ListedFamily;
 use crate::next::{Effects, Next, Step};
 use crate::state::State;
@@ -351,7 +352,9 @@ impl State {
             step,
         );
         self.contents.push(sayings);
-        self.families.positions.push_reserved(position);
+        self.families
+            .positions
+            .push_reserved(kept_position(position));
         self.journal.append(by, report)
     }
 

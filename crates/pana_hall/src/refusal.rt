@@ -63,20 +63,21 @@ impl State {
     }
 
     fn unknown(&self, number: u64) -> Option<Cause>
-        requires { AreSpots self.now.journal.entries self.now.copies }
+        requires { IsHeld self.now }
         ensures { result ≡ unknown number (living self.now.journal.entries) }
     {
-        let found = self.copies.get(number);
-        found.is_none().then_some(Cause::UnknownCopy(number))
+        (!self.lives(number)).then_some(Cause::UnknownCopy(number))
     }
 
+    #[tactic(auto, using(crate::proofs::Answered::is_living, crate::proofs::Listed::found_entry, crate::proofs::Ready::family_of))]
     fn other_family(&self, a: u64, b: u64) -> Option<Cause>
-        requires { AreSpots self.now.journal.entries self.now.copies }
+        requires { IsHeld self.now }
         ensures { result ≡ other_family a b (living self.now.journal.entries) }
     {
-        let copy = self.copies.get(a)?;
-        let other = self.copies.get(b)?;
-        (other.family != copy.family).then_some(Cause::OtherFamily)
+        if !self.lives(a) || !self.lives(b) {
+            return None;
+        }
+        (self.family(a).number() != self.family(b).number()).then_some(Cause::OtherFamily)
     }
 
     fn taken(&self, place: &Place) -> Option<Cause>
@@ -90,22 +91,26 @@ impl State {
         }
     }
 
-    #[tactic(auto, using(crate::proofs::Answered::found_spot, crate::proofs::Listed::found_entry, crate::proofs::Answered::full_is))]
+    #[tactic(auto, using(crate::proofs::Answered::is_living, crate::proofs::Listed::found_entry, crate::proofs::Answered::full_is))]
     fn family_full(&self, number: u64) -> Option<Cause>
         requires { IsHeld self.now }
         ensures { result ≡ family_full number (living self.now.journal.entries) }
     {
-        let _ = self.copies.get(number)?;
+        if !self.lives(number) {
+            return None;
+        }
         (self.family(number).count() >= MOST_COPIES).then_some(Cause::FamilyFull)
     }
 
     /// The id of the copy can't be divided.
-    #[tactic(auto, using(crate::proofs::Answered::found_spot, crate::proofs::Listed::found_entry, crate::proofs::Answered::deep_is))]
+    #[tactic(auto, using(crate::proofs::Answered::is_living, crate::proofs::Listed::found_entry, crate::proofs::Answered::deep_is))]
     fn too_deep(&self, number: u64) -> Option<Cause>
         requires { IsHeld self.now }
         ensures { result ≡ too_deep number self.now.journal.entries (living self.now.journal.entries) }
     {
-        let _ = self.copies.get(number)?;
+        if !self.lives(number) {
+            return None;
+        }
         (!self.family(number).splits(number)).then_some(Cause::TooDeep)
     }
 
@@ -244,7 +249,7 @@ impl State {
 
     /// Why a query is refused.
     pub fn query_refusal(&self, query: &Query) -> Option<Cause>
-        requires { AreSpots self.now.journal.entries self.now.copies }
+        requires { IsHeld self.now }
         ensures { result ≡ query_refusal self.now.journal.entries (living self.now.journal.entries) query.now }
     {
         match query {

@@ -1,6 +1,6 @@
 //! What a hall keeps.
-ghost use Rattle.pana_hall.specs.{Family.families, inner.Kept.IsWithin, inner.Kept.family_of, inner.Listed.listed, inner.State.IsHeld};
-ghost use Rattle.std.specs.Prelude.{◌≡◌, []};
+ghost use Rattle.pana_hall.specs.{Family.families, Living.copy_in, Living.living, inner.Kept.IsWithin, inner.Kept.family_of, inner.Listed.listed, inner.State.IsHeld};
+ghost use Rattle.std.specs.Prelude.{◌≡◌, [], is_some};
 
 use crate::contents::Contents;
 use crate::families::Families;
@@ -50,5 +50,17 @@ impl State {
         ensures { listed result.now ≡ family_of self.now.journal.entries (families self.now.journal.entries entry) }
     {
         self.families.of_entry(entry).unwrap()
+    }
+
+    /// Whether the copy lives. Its family says so, which a report of the copy reads too. Takes no memory.
+    #[tactic(auto, using(crate::proofs::Answered::has_living, crate::proofs::Answered::none_living))]
+    pub fn lives(&self, copy: u64) -> bool
+        requires { IsHeld self.now }
+        ensures { result ≡ is_some (copy_in (living self.now.journal.entries) copy) }
+    {
+        match self.families.of_entry(copy) {
+            Some(it) => it.has(copy),
+            None => false,
+        }
     }
 }

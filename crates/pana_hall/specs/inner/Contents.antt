@@ -1,5 +1,5 @@
 -- What the copies hold, as the hall keeps it: for each copy the entry that says so.
-use Rattle.std.specs.Prelude.{◌≡◌, ℕ, ◌-◌, ◌==◌, List, length, Option, Some, None, slice_get, option_map, unwrap_or, if◌then◌else◌}
+use Rattle.std.specs.Prelude.{◌≡◌, ℕ, ◌-◌, ◌==◌, List, length, Option, Some, None, slice_get, option_and_then, option_map, if◌then◌else◌}
 use Rattle.pana_journal.specs.declared.report.Report.{Report}
 use Rattle.pana_journal.specs.declared.report.Report.TheVariants.{Register, Duplicate, Edit, Reconcile, Merge, Remove, Note}
 use Rattle.pana_journal.specs.declared.entry.Entry.{Entry}
@@ -8,9 +8,17 @@ use Rattle.pana_hall.specs.Living.{Content, Copy, content_in, living}
 use Rattle.pana_hall.specs.declared.contents.Saying.{Saying}
 use Rattle.pana_hall.specs.declared.contents.Sayings.{Sayings}
 
+-- the entry that a number in the list is, where 0 is none
+abbrev pub some_entry : ℕ → Option ℕ
+some_entry n = if n == 0 then None else Some n
+
+-- the entry as the list keeps it
+abbrev pub listed_entry : Option ℕ → Option ℕ
+listed_entry entry = option_and_then some_entry entry
+
 -- the entry that is kept for the copy with this number
-abbrev pub content_at : List (Option ℕ) → ℕ → Option ℕ
-content_at entries number = if number == 0 then None else unwrap_or (slice_get entries (number - 1)) None
+abbrev pub content_at : List ℕ → ℕ → Option ℕ
+content_at entries number = if number == 0 then None else option_and_then some_entry (slice_get entries (number - 1))
 
 -- the entry that says so
 abbrev pub entry_of : Option Content → Option ℕ
@@ -21,7 +29,7 @@ abbrev pub said_in : List Copy → ℕ → Option ℕ
 said_in copies number = entry_of (content_in copies number)
 
 -- for each entry of the journal one is kept, if any, and for a copy that lives it is the one that says what it holds
-pub record AreContents (journal : List Entry) (entries : List (Option ℕ)) : Type 0 where
+pub record AreContents (journal : List Entry) (entries : List ℕ) : Type 0 where
   pub count : length entries ≡ length journal
   pub at : (number : ℕ) → content_at entries number ≡ said_in (living journal) number
 

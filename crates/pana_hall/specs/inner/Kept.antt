@@ -74,7 +74,7 @@ abbrev pub IsWithin : List Entry → ℕ → Type 0
 IsWithin journal n = (0 < n) × (n ≤ length journal)
 
 -- what a hall keeps of its journal: the families that have begun, the family of each entry, and the living copies' places and contents
-pub record IsKept (journal : List Entry) (list : List KeptRows) (positions : List ℕ) (copies : Table) (said : List (Option ℕ)) : Type 0 where
+pub record IsKept (journal : List Entry) (list : List KeptRows) (positions : List ℕ) (copies : Table) (said : List ℕ) : Type 0 where
   pub accepted : IsAccepted 8 journal
   pub listed : list ≡ families_of journal
   pub placed : ArePlaced journal positions

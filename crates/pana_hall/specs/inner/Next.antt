@@ -42,7 +42,7 @@ IsStep entry len capacity list position copies (Begin place) = (sum : Option (Li
 IsStep entry len capacity list position copies step = Takes entry list position copies step
 
 -- the sayings are of copies that the journal has made, with its next entry, and with them the contents are those after the entry
-pub record AreSayings (journal : List Entry) (entry : Entry) (contents : List (Option ℕ)) (sayings : Sayings) : Type 0 where
+pub record AreSayings (journal : List Entry) (entry : Entry) (contents : List ℕ) (sayings : Sayings) : Type 0 where
   pub first : IfSome sayings.first (λ s. (0 < s.copy) × (s.copy ≤ length journal + 1))
   pub second : IfSome sayings.second (λ s. (0 < s.copy) × (s.copy ≤ length journal + 1))
   pub at : (number : ℕ) → all_written sayings (content_at contents) number ≡ said_in (living (journal ++ entry ∷ [])) number
@@ -110,7 +110,7 @@ pub record IsSecond (state : State) (first second : Next) : Type 0 where
   pub free : (let journal = with_report state.journal.entries first.entry.by first.entry.report in report_refusal 8 journal (living journal) first.entry.by second.entry.report ≡ None)
   pub position : second.position ≡ first.position
   pub room : HasRoom 2 state
-  pub sayings : (said : List (Option ℕ)) → (let journal = with_report state.journal.entries first.entry.by first.entry.report in AreContents journal said → AreSayings journal second.entry said second.sayings)
+  pub sayings : (said : List ℕ) → (let journal = with_report state.journal.entries first.entry.by first.entry.report in AreContents journal said → AreSayings journal second.entry said second.sayings)
   pub step : TakesAfter first.entry second.entry state.families.list.items first.position (living (with_report state.journal.entries first.entry.by first.entry.report)) second.step
 
 -- an entry, or two
