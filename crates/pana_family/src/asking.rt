@@ -10,7 +10,7 @@ ghost use Rattle.pana_family.specs.Rows.{AreBefore, copy_rows, divides, held_row
 
 use crate::board::{FamilyBoard, board_of};
 use crate::family::Family;
-use crate::searching::{are_before, count_copies, held_count, index_of, lives};
+use crate::searching::{are_before, count_copies, held_count, index_of};
 use crate::stamps::{all_valid, stamps_of};
 use pana_calls::CopyStamp;
 use pana_event::Rel;
@@ -18,11 +18,11 @@ use pana_list::PlainList;
 use std::alloc::AllocError;
 
 impl Family {
-    /// Whether the copy lives in the family. Takes no memory.
+    /// Whether the copy lives in the family. Takes no memory; O(log copies).
     pub fn has(&self, copy: u64) -> bool
         ensures { result ≡ lives self.now.rows copy }
     {
-        lives(&self.items, copy)
+        self.pairs.contains(copy)
     }
 
     /// Whether the entry is greater than each number and touch of copies and parcels, as a report asks. Takes no memory.

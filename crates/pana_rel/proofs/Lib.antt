@@ -7,4 +7,5 @@ pub mod Insertions
 pub mod Orders
 pub mod Places
 pub mod Tables
+pub mod Searches
 pub mod Spares

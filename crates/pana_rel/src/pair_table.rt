@@ -1,5 +1,5 @@
 //! How each of some copies relates to each.
-ghost use Rattle.std.specs.Prelude.{◌≡◌, ◌≢◌, ℕ, ◌+◌, ◌<◌, ◌≤◌, [], ◌∷◌, Contains, IfOk, OnErr, OnOk, length, map, slice_index_or};
+ghost use Rattle.std.specs.Prelude.{◌≡◌, ◌≢◌, ◌↔◌, ℕ, ◌+◌, ◌<◌, ◌≤◌, [], ◌∷◌, Contains, IfOk, IsTrue, OnErr, OnOk, length, map, slice_index_or};
 ghost use Rattle.pana_event.specs.declared.rel.Rel.TheVariants.{Equal};
 ghost use Rattle.pana_event.specs.Relation.{reverse_of};
 ghost use Rattle.pana_rel.specs.Board.{counts_of, is_split, newest_of};
@@ -80,6 +80,13 @@ impl PairTable {
         ensures itself { (copy : ℕ) → Contains self.now.copies copy → rel_of self.now copy copy ≡ Equal }
     {
         self.copies.as_slice()
+    }
+
+    /// Whether a copy is in the table. Takes no memory; O(log copies).
+    pub fn contains(&self, copy: u64) -> bool
+        ensures { IsTrue result ↔ Contains self.now.copies copy }
+    {
+        self.copies.as_slice().binary_search(&copy).is_ok()
     }
 
     /// Makes room for one more copy, so that the next `insert_like` or `insert_row` needs no memory.

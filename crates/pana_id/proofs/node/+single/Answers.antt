@@ -9,8 +9,8 @@ pub Halves::is_single_at-returns-then-at-gt0-2 : goal.Halves::is_single_at-retur
 Halves::is_single_at-returns-then-at-gt0-2 t c =
     c.is_single_at-then-at-gt0-2.ensures
     ∙ sym (ap (λ r. is_single (pair (tree c.args.self.now.left) (tree r)) c.args.at) c.in_default-Zero.is-1
-        ∙ single_left (tree c.args.self.now.left) c.args.at
-        ∙ ap (λ b. b && is_single (tree c.args.self.now.left) (c.args.at - 1)) (lt-ltb _ _ c.if-at-gt0-2.true))
+    ∙ single_left (tree c.args.self.now.left) c.args.at
+    ∙ ap (λ b. b && is_single (tree c.args.self.now.left) (c.args.at - 1)) (lt-ltb _ _ c.if-at-gt0-2.true))
 
 pub Halves::is_single_at-returns-in_default : goal.Halves::is_single_at-returns-in_default
 Halves::is_single_at-returns-in_default t c =
