@@ -1,5 +1,5 @@
 -- What the tests and the parts of a pair are where a half isn't 0.
-use Rattle.std.proofs.Common.{◌≡◌, ℕ, suc, ◌-◌, Bool, true, false, ◌&&◌, ◌≤◌, nat_lt, IsTrue, refl, sym, ap, ap₂, subst, ◌∙◌, arith}
+use Rattle.std.proofs.Common.{◌≡◌, ℕ, suc, ◌-◌, true, false, ◌&&◌, ◌≤◌, nat_lt, IsTrue, refl, sym, ap, ap₂, subst, ◌∙◌, arith}
 use Rattle.std.proofs.lemmas.Bool.{both_ways}
 use Rattle.pana_id.specs.Id.{Id, zero_id, one_id, pair, is_zero, is_one, is_single, are_disjoint, parts, norm, sum_of}
 use Rattle.pana_id.specs.Node.{tree}

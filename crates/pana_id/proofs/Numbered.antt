@@ -1,8 +1,8 @@
 -- What the number of a place says of its half.
-use Rattle.std.proofs.Common.{◌≡◌, ℕ, zero, suc, ◌+◌, ◌*◌, ◌/◌, ◌%◌, ◌^◌, ◌-◌, ◌<◌, ◌==◌, if◌then◌else◌, Bool, true, false, refl, sym, ap, ◌∙◌, arith}
+use Rattle.std.proofs.Common.{◌≡◌, ℕ, zero, suc, ◌+◌, ◌*◌, ◌/◌, ◌%◌, ◌^◌, ◌<◌, ◌≤◌, ◌==◌, if◌then◌else◌, Bool, true, false, refl, ap, ◌∙◌, arith}
 use Rattle.std.proofs.lemmas.Bool.{eq-eqb, ne_eqb}
 use Rattle.std.proofs.Math.Nat.{pow-suc}
-use Rattle.pana_id.specs.Id.{Id, zero_id, one_id, pair, is_zero, is_one}
+use Rattle.pana_id.specs.Id.{Id, zero_id, pair, is_zero, is_one, depth}
 use Rattle.pana_id.specs.Node.{single}
 
 -- where the choices are enough, one more says nothing
@@ -54,3 +54,13 @@ pub right_number : (n : ℕ) → n < 2 ^ 62 → single 64 (suc (2 * n + 3)) ≡ 
 right_number n few =
     let half : (2 * n + 3) / 2 ≡ suc n = omega arith in
     right_single (2 * n + 3) (omega (arith, few)) (λ even. omega (arith, even)) ∙ ap (λ k. pair zero_id (single 64 k)) half
+
+-- a place is no deeper than choices are told
+pub depth-single_at : (most n : ℕ) → depth (single most n) ≤ most
+depth-single_at most zero = omega arith
+depth-single_at zero (suc n) = omega arith
+depth-single_at (suc most) (suc n) = by_parity (n % 2 == 0) (single most (n / 2)) (depth-single_at most (n / 2))
+  where
+    by_parity : (b : Bool) (half : Id) → depth half ≤ most → depth (if b then pair half zero_id else pair zero_id half) ≤ suc most
+    by_parity true half deep = omega (arith, deep)
+    by_parity false half deep = omega (arith, deep)

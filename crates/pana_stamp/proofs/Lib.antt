@@ -1,5 +1,7 @@
 pub mod Fills
 pub mod Halves
+pub mod OnePlace
+pub mod FillPlace
 pub mod Costs
 pub mod Ready
 pub mod Growths

@@ -2,10 +2,11 @@
 ghost use Rattle.std.specs.Prelude.{◌≡◌, ◌+◌, ◌^◌, ◌<◌, max, IfOk, IfSome, IfNone};
 ghost use Rattle.pana_event.specs.Event.{IsNormal, IsOpen, fork, greatest, leaf, least, norm};
 ghost use Rattle.pana_event.specs.Shape.{tree as event_of};
-ghost use Rattle.pana_id.specs.{Id.pair, Node.tree as id_of};
+ghost use Rattle.pana_id.specs.{Id.pair, Node.single, Node.tree as id_of};
+ghost use Rattle.pana_id.specs.declared.node.Node.TheVariants as ids;
 ghost use Rattle.pana_stamp.specs.Fill.{IsFilled, fill as fill_of};
 ghost use Rattle.pana_stamp.specs.Raised.{IsRaised};
-ghost use Rattle.pana_stamp.specs.inner.Renewed.{Differs, new_or};
+ghost use Rattle.pana_stamp.specs.inner.Renewed.{Differs, filled_beside, new_or};
 
 use pana_event::{EventTree, Node};
 use pana_id::{Halves as IdHalves, IdTree, Node as IdNode};
@@ -70,9 +71,67 @@ fn fill_node(alloc: Global, id: &IdNode, event: &Node) -> Result<Option<Node>, A
     match id {
         IdNode::Zero => Ok(None),
         IdNode::One => Ok(leaf_for(event, event.greatest())),
-        IdNode::Single(number) => fill_halves(alloc, &IdHalves::of_single(*number), event),
+        IdNode::Single(number) => fill_single(alloc, *number, event),
         IdNode::Pair(ids) => fill_halves(alloc, ids, event),
     }
+}
+
+/// The same for the id of the place with this number.
+#[cycle(one_place)]
+fn fill_single(alloc: Global, number: u64, event: &Node) -> Result<Option<Node>, AllocError>
+    requires normal { IsNormal (event_of event.now) }
+    requires fits { greatest (event_of event.now) < 2 ^ 64 }
+    ensures tree { IfOk result (λ new. new_or new (event_of event.now) ≡ fill_of (id_of (ids.Single number)) (event_of event.now)) }
+    ensures changed { IfOk result (Differs (event_of event.now)) }
+{
+    match event {
+        Node::Leaf(_) => Ok(None),
+        Node::Fork(base, halves) => fill_half(alloc, number, *base, &halves.left, &halves.right),
+    }
+}
+
+/// The same for the fork of a number and two halves.
+#[cycle(one_place)]
+fn fill_half(
+    alloc: Global,
+    number: u64,
+    base: u64,
+    left: &Node,
+    right: &Node,
+) -> Result<Option<Node>, AllocError>
+    requires normal { IsNormal (fork base (event_of left.now) (event_of right.now)) }
+    requires fits { greatest (fork base (event_of left.now) (event_of right.now)) < 2 ^ 64 }
+    ensures tree { IfOk result (λ new. new_or new (fork base (event_of left.now) (event_of right.now)) ≡ fill_of (id_of (ids.Single number)) (fork base (event_of left.now) (event_of right.now))) }
+    ensures changed { IfOk result (Differs (fork base (event_of left.now) (event_of right.now))) }
+{
+    if number % 2 == 0 {
+        let filled = fill_place(alloc, number / 2, left, right)?;
+        with_halves(alloc, base, left, filled, right, None)
+    } else {
+        let filled = fill_place(alloc, number / 2, right, left)?;
+        with_halves(alloc, base, left, None, right, filled)
+    }
+}
+
+/// A half of an event, filled for the id of the place with this number in that half, beside the other half, unless that changes
+/// nothing.
+#[cycle(one_place)]
+fn fill_place(
+    alloc: Global,
+    place: u64,
+    event: &Node,
+    other: &Node,
+) -> Result<Option<Node>, AllocError>
+    requires normal { IsNormal (event_of event.now) × IsNormal (event_of other.now) }
+    requires fits { greatest (event_of event.now) < 2 ^ 64 }
+    ensures tree { IfOk result (λ new. new_or new (event_of event.now) ≡ filled_beside (single 64 place) (event_of event.now) (event_of other.now)) }
+    ensures changed { IfOk result (Differs (event_of event.now)) }
+{
+    if place == 0 {
+        let level = event.greatest().max(other.least());
+        return Ok(leaf_for(event, level));
+    }
+    fill_single(alloc, place - 1, event)
 }
 
 /// The same for the id with these halves.

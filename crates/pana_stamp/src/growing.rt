@@ -3,7 +3,8 @@ ghost use Rattle.std.specs.Prelude.{◌≡◌, ◌+◌, ◌^◌, ◌<◌, ◌≤
 ghost use Rattle.pana_event.specs.Event.{greatest, leaf};
 ghost use Rattle.pana_event.specs.Shape.{tree as event_of};
 ghost use Rattle.pana_id.specs.Id.{depth as depth_of, is_zero, pair};
-ghost use Rattle.pana_id.specs.Node.{tree as id_of};
+ghost use Rattle.pana_id.specs.Node.{single, tree as id_of};
+ghost use Rattle.pana_id.specs.declared.node.Node.TheVariants as ids;
 ghost use Rattle.pana_stamp.specs.Fill.{fill as fill_of};
 ghost use Rattle.pana_stamp.specs.Grow.{IsGrown, cost_of, event_if, goes_right as is_right, grow as grow_of, grown_at, left_of, opened_by as opens, right_of};
 ghost use Rattle.pana_stamp.specs.Raised.{IsRaised};
@@ -32,6 +33,48 @@ pub fn grow(alloc: Global, id: &IdTree, event: &EventTree) -> Result<(EventTree,
     ensures place { IfOk result (λ two. IsGrown id.now event.now two.0 two.1) }
     ensures raised { IfOk result (λ two. IsRaised id.now event.now two.0) }
 {
+    match id.node() {
+        IdNode::Single(number) => grow_one(alloc, id, event, *number),
+        _ => grow_by_cost(alloc, id, event),
+    }
+}
+
+/// The same, for the id of the place with this number.
+fn grow_one(
+    alloc: Global,
+    id: &IdTree,
+    event: &EventTree,
+    number: u64,
+) -> Result<(EventTree, Cost), AllocError>
+    requires one { id.now ≡ id_of (ids.Single number) }
+    requires owner { is_zero id.now ≡ false }
+    requires filled { fill_of id.now event.now ≡ event.now }
+    requires room { greatest event.now + 1 < 2 ^ 64 }
+    ensures tree { IfOk result (λ two. two.0 ≡ grow_of id.now event.now) }
+    ensures cost { IfOk result (λ two. two.1 ≡ cost_of id.now event.now) }
+    ensures place { IfOk result (λ two. IsGrown id.now event.now two.0 two.1) }
+    ensures raised { IfOk result (λ two. IsRaised id.now event.now two.0) }
+{
+    // whose contract says that the id is valid
+    let _ = id.node();
+    let (node, cost) = grow_single(alloc, number, event.node())?;
+    Ok((EventTree::of_node(node), cost))
+}
+
+/// The same, for any id.
+fn grow_by_cost(
+    alloc: Global,
+    id: &IdTree,
+    event: &EventTree,
+) -> Result<(EventTree, Cost), AllocError>
+    requires owner { is_zero id.now ≡ false }
+    requires filled { fill_of id.now event.now ≡ event.now }
+    requires room { greatest event.now + 1 < 2 ^ 64 }
+    ensures tree { IfOk result (λ two. two.0 ≡ grow_of id.now event.now) }
+    ensures cost { IfOk result (λ two. two.1 ≡ cost_of id.now event.now) }
+    ensures place { IfOk result (λ two. IsGrown id.now event.now two.0 two.1) }
+    ensures raised { IfOk result (λ two. IsRaised id.now event.now two.0) }
+{
     let root = id.node();
     let event_root = event.node();
     let cost = least_cost(root, event_root);
@@ -39,6 +82,47 @@ pub fn grow(alloc: Global, id: &IdTree, event: &EventTree) -> Result<(EventTree,
         Some(node) => Ok((EventTree::of_node(node), cost)),
         None => unreachable!(),
     }
+}
+
+/// The event grown for the id of one place, which is where it grows, and what that costs. Allocates once a level of the place.
+#[cycle(one_place)]
+fn grow_single(alloc: Global, number: u64, event: &Node) -> Result<(Node, Cost), AllocError>
+    requires { greatest (event_of event.now) + 1 < 2 ^ 64 }
+    ensures tree { IfOk result (λ two. event_of two.0 ≡ grow_of (id_of (ids.Single number)) (event_of event.now)) }
+    ensures cost { IfOk result (λ two. two.1 ≡ cost_of (id_of (ids.Single number)) (event_of event.now)) }
+{
+    let zero = Node::Leaf(0);
+    let (left, right) = halves_of(event, &zero);
+    let opened = opened_by(event);
+    if number % 2 == 0 {
+        let (grown, cost) = grow_place(alloc, number / 2, left)?;
+        let other = right.share()?;
+        let fork = Node::fork_of(alloc, event.number(), grown, other)?;
+        Ok((fork, cost.one_up(opened)))
+    } else {
+        let (grown, cost) = grow_place(alloc, number / 2, right)?;
+        let other = left.share()?;
+        let fork = Node::fork_of(alloc, event.number(), other, grown)?;
+        Ok((fork, cost.one_up(opened)))
+    }
+}
+
+/// The same for the place with this number.
+#[cycle(one_place)]
+fn grow_place(alloc: Global, place: u64, event: &Node) -> Result<(Node, Cost), AllocError>
+    requires { greatest (event_of event.now) + 1 < 2 ^ 64 }
+    ensures tree { IfOk result (λ two. event_of two.0 ≡ grow_of (single 64 place) (event_of event.now)) }
+    ensures cost { IfOk result (λ two. two.1 ≡ cost_of (single 64 place) (event_of event.now)) }
+{
+    if place == 0 {
+        let leaf = Node::Leaf(event.number() + 1);
+        let cost = Cost {
+            opened: 0,
+            levels: 0,
+        };
+        return Ok((leaf, cost));
+    }
+    grow_single(alloc, place - 1, event)
 }
 
 /// The least cost at which the event grows for the id. Takes no memory; visits each node at most once.

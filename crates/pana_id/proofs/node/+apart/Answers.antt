@@ -1,5 +1,5 @@
-use Rattle.std.proofs.Common.{sym, ap, ap₂, ◌∙◌}
-use Rattle.pana_id.specs.Id.{one_id, zero_id, are_disjoint}
+use Rattle.std.proofs.Common.{sym, ap, ◌∙◌}
+use Rattle.pana_id.specs.Id.{are_disjoint}
 use Rattle.pana_id.specs.Node.{tree}
 use Rattle.pana_id.proofs.Nodes.{some_node, disjoint_one, one_disjoint, disjoint_zero}
 use Rattle.pana_id.proofs.node.+apart.Goals as goal

@@ -1,5 +1,5 @@
 use Rattle.std.proofs.Common.{sym, ap, ap₂, ◌∙◌}
-use Rattle.pana_id.specs.Id.{pair, zero_id, parts}
+use Rattle.pana_id.specs.Id.{pair, parts}
 use Rattle.pana_id.specs.Node.{tree}
 use Rattle.pana_id.proofs.Nodes.{some_node, parts_of_left, parts_of_both}
 use Rattle.pana_id.proofs.node.+divide_off.Goals as goal

@@ -1,4 +1,4 @@
-use Rattle.std.proofs.Common.{◌≡◌, ◌-◌, nat_lt, ◌&&◌, false, sym, ap, ap₂, ◌∙◌}
+use Rattle.std.proofs.Common.{◌-◌, ◌&&◌, sym, ap, ◌∙◌}
 use Rattle.std.proofs.lemmas.Bool.{lt-ltb}
 use Rattle.pana_id.specs.Id.{pair, is_single}
 use Rattle.pana_id.specs.Node.{tree}

@@ -1,7 +1,7 @@
 use Rattle.pana_id.proofs.Numbered.{left_number, right_number}
 use Rattle.std.proofs.Common.{ap₂, sym, ◌∙◌}
-use Rattle.pana_id.specs.Id.{Id, pair}
-use Rattle.pana_id.specs.Node.{single, tree}
+use Rattle.pana_id.specs.Id.{pair}
+use Rattle.pana_id.specs.Node.{tree}
 use Rattle.pana_id.proofs.node.number_of.Goals as goal
 
 pub returns-in-Zero-Single : goal.returns-in-Zero-Single

@@ -1,7 +1,5 @@
-use Rattle.std.proofs.Common.{rules, ◌≡◌, sym, ap}
-use Rattle.pana_event.specs.Event.{Event, fork, norm, leaf, greatest, least}
-use Rattle.pana_event.specs.Shape.{tree as event_of}
-use Rattle.pana_id.specs.Id.{pair, one_id}
+use Rattle.std.proofs.Common.{rules, ap}
+use Rattle.pana_event.specs.Event.{Event}
 use Rattle.pana_id.specs.Node.{tree as id_of}
 use Rattle.pana_id.proofs.Nodes.{other_node}
 use Rattle.pana_stamp.proofs.Fills.{fill_right, fill_both}
