@@ -271,6 +271,19 @@ pub stamps_are : (journal : List Entry) (family : ℕ) (rows : List StampRow) (s
 unfolding AreStampsOf
 stamps_are journal family rows stamps accepted rows_is texts are = grind (arith, nat_tests, copies_sets)
 
+-- the one copy of a family is newest
+pub one_heads : (living : List ℕ) (rows : List StampRow) (table : List Known) → StandsFor rows table → living ≡ map (λ row. row.copy) (copy_rows rows) → length living ≡ 1
+    → (1 ≡ length (board_newest table)) × (false ≡ board_split table)
+unfolding board_newest board_split
+one_heads living rows table stands are one =
+    of_one (copies_of table) (sym (same_length _ _ (same_copies _ _ stands.same)) ∙ sym (length-map (copy_rows rows) (λ (row : StampRow). row.copy)) ∙ sym (ap length are) ∙ one)
+  where
+    of_one : (copies : List Known) → length copies ≡ 1
+        → (1 ≡ length (map number_of (newest_of number_of known_relation copies))) × (false ≡ is_split number_of known_relation copies)
+    of_one [] one = absurd (cc)
+    of_one (t ∷ []) one = grind (arith, nat_tests, eq-eqb)
+    of_one (t ∷ u ∷ copies) one = absurd (omega (arith, one))
+
 -- the one copy of a new family is newest
 pub new_heads : (n : ℕ) (table : List Known) → StandsFor (seed_row n ∷ []) table → (1 ≡ length (board_newest table)) × (false ≡ board_split table)
 unfolding board_newest board_split

@@ -70,7 +70,7 @@ impl ListedFamily {
     {
         match self {
             ListedFamily::New(_) => 1,
-            ListedFamily::Changed(it) => it.family().count(),
+            ListedFamily::Changed(it) => it.family().living().len(),
         }
     }
 
@@ -127,13 +127,14 @@ impl ListedFamily {
     }
 
     /// How many copies are newest, and whether two of these are in conflict. Fails only where memory runs out.
-    #[tactic(auto, using(crate::proofs::Answered::new_heads))]
+    #[tactic(auto, using(crate::proofs::Answered::new_heads, crate::proofs::Answered::one_heads))]
     pub fn heads(&self) -> Result<(usize, bool), AllocError>
         ensures newest { IfOk result (λ heads. (table : List Known) → StandsFor (listed self.now).rows table → heads.0 ≡ length (board_newest table)) }
         ensures split { IfOk result (λ heads. (table : List Known) → StandsFor (listed self.now).rows table → heads.1 ≡ board_split table) }
     {
         match self {
             ListedFamily::New(_) => Ok((1, false)),
+            ListedFamily::Changed(it) if it.family().living().len() == 1 => Ok((1, false)),
             ListedFamily::Changed(it) => {
                 let board = it.family().board()?;
                 Ok((board.newest.as_slice().len(), board.split))
