@@ -1,6 +1,6 @@
 -- Causes and answers read off what a hall keeps.
 use Rattle.pana_hall.proofs.Words.{◌≡◌, ℕ, ◌+◌, ◌<◌, ◌≤◌, Bool, true, false, cond, not, ◌&&◌, ◌||◌, ◌==◌, nat_le, List, [], ◌∷◌, ◌++◌, length, filter, reverse, find, count_by, Option, Some, None}
-use Rattle.pana_hall.proofs.Words.{option_map, option_and_then, suc, nat_lt, slice_index_or, map, then_some, AllByRecursion, list_any, refl, sym, ap, ◌∙◌, subst, inl, inr, arith, or-true}
+use Rattle.pana_hall.proofs.Words.{length-map, option_map, option_and_then, suc, nat_lt, slice_index_or, map, then_some, AllByRecursion, list_any, refl, sym, ap, ◌∙◌, subst, inl, inr, arith, or-true}
 use Rattle.pana_hall.proofs.Words.{reverse-append, map-append, length-filter, map-map, Place, same_place, Spot, Table, kept, Entry, entry_at, has, copy_rows, divides, lives, PlaceTaken, FamilyFull}
 use Rattle.pana_hall.proofs.Words.{TooDeep, OtherFamily, KeptRows, ends_in, last_place, families, Copy, copies_of, copy_in, living, known_to, pending, is_last, displaced, taken, taken_from, taken_since}
 use Rattle.pana_hall.proofs.Words.{family_full, too_deep, pending_with, unknown, other_family, first, is_of, IsAccepted, layer, of_each, AreSpots, family_of, undone_of, families_of, rows_of}
@@ -16,7 +16,9 @@ use Rattle.pana_hall.proofs.Ready.{place_spots, at_spots, family_of as family_of
 use Rattle.pana_hall.specs.{inner.Families.family_at}
 use Rattle.pana_hall.proofs.{Listed.entry_within, Listed.found_at, Listed.found_entry, Moves.found_number, Knowns.IsCopyIn, Knowns.found_there, Knowns.set_known}
 use Rattle.pana_family.specs.Table as table
-use Rattle.pana_family.specs.{Board.board_newest, Board.board_split, Stands.AreSame, Table.Known}
+use Rattle.pana_family.specs.{Board.board_newest, Board.board_split, Board.known_relation, Board.number_of as copy_number, Stands.AreSame, Table.Known, Table.copies_of as known_copies}
+use Rattle.pana_family.proofs.{BySets.same_copies, Members.same_length}
+use Rattle.pana_rel.specs.Board.{is_split, newest_of}
 use Rattle.pana_family.specs.{Stamps.AreStamps, Stamps.stamps_in, Stamps.text_of}
 use Rattle.pana_calls.specs.{declared.copy_stamp.CopyStamp.CopyStamp}
 use Rattle.pana_hall.specs.{Stamps.AreStampsOf}
@@ -276,10 +278,10 @@ pub one_heads : (living : List ℕ) (rows : List StampRow) (table : List Known) 
     → (1 ≡ length (board_newest table)) × (false ≡ board_split table)
 unfolding board_newest board_split
 one_heads living rows table stands are one =
-    of_one (copies_of table) (sym (same_length _ _ (same_copies _ _ stands.same)) ∙ sym (length-map (copy_rows rows) (λ (row : StampRow). row.copy)) ∙ sym (ap length are) ∙ one)
+    of_one (known_copies table) (same_length (copy_rows rows) (known_copies table) (same_copies rows table stands.same) ∙ sym (length-map (copy_rows rows) (λ (row : StampRow). row.copy)) ∙ sym (ap length are) ∙ one)
   where
     of_one : (copies : List Known) → length copies ≡ 1
-        → (1 ≡ length (map number_of (newest_of number_of known_relation copies))) × (false ≡ is_split number_of known_relation copies)
+        → (1 ≡ length (map copy_number (newest_of copy_number known_relation copies))) × (false ≡ is_split copy_number known_relation copies)
     of_one [] one = absurd (cc)
     of_one (t ∷ []) one = grind (arith, nat_tests, eq-eqb)
     of_one (t ∷ u ∷ copies) one = absurd (omega (arith, one))

@@ -127,7 +127,7 @@ impl ListedFamily {
     }
 
     /// How many copies are newest, and whether two of these are in conflict. Fails only where memory runs out.
-    #[tactic(auto, using(crate::proofs::Answered::new_heads, crate::proofs::Answered::one_heads))]
+    #[tactic(auto, using(crate::proofs::Answered::new_heads))]
     pub fn heads(&self) -> Result<(usize, bool), AllocError>
         ensures newest { IfOk result (λ heads. (table : List Known) → StandsFor (listed self.now).rows table → heads.0 ≡ length (board_newest table)) }
         ensures split { IfOk result (λ heads. (table : List Known) → StandsFor (listed self.now).rows table → heads.1 ≡ board_split table) }
