@@ -1,5 +1,5 @@
 -- The normal form of a number over two halves.
-use Rattle.std.proofs.Common.{◌≡◌, ℕ, ◌+◌, ◌-◌, ◌≤◌, min, max, Bool, true, false, cond, ◌⊎◌, List, [], ◌∷◌, arith, refl, sym, ap, subst, inl, inr, eqb, eqb-true, ne_eqb}
+use Rattle.std.proofs.Common.{◌≡◌, ℕ, ◌+◌, ◌-◌, ◌≤◌, min, max, Bool, true, false, cond, ◌⊎◌, List, [], ◌∷◌, arith, refl, sym, ap, ◌∙◌, subst, inl, inr, eqb, eqb-true, ne_eqb}
 use Rattle.std.proofs.lemmas.Bool.{eqb-false}
 use Rattle.pana_event.specs.Event.{Event, leaf, fork, number, level, greatest, depth, sink, are_same_leaf, norm, IsOpen, IsNormal, AtPoints}
 use Rattle.pana_event.proofs.Levels.{level-sink, greatest-sink, number-sink, depth-sink, normal-sink}

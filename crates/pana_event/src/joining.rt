@@ -1,11 +1,11 @@
 //! The join of two events: the greater level at every point. It has the halves of either in common where it can.
 ghost use Rattle.std.specs.Prelude.{◌≡◌, ◌+◌, ◌^◌, ◌<◌, IfOk, IfSome};
-ghost use Rattle.pana_event.specs.Event.{IsNormal, fork, greatest, leaf, lift};
+ghost use Rattle.pana_event.specs.Event.{IsNormal, greatest, leaf, lift, number};
 ghost use Rattle.pana_event.specs.Join.{join_of, joined, raised};
 ghost use Rattle.pana_event.specs.inner.Joining.{IsJoined, IsOneOf, is_first, is_second, reversed, whole_of};
 ghost use Rattle.pana_event.specs.Shape.{tree};
 
-use crate::node::{Halves, Node};
+use crate::node::Node;
 use std::alloc::{AllocError, Global};
 
 /// What the join of two events is.
@@ -89,8 +89,7 @@ impl Joined {
 
 /// The join of a leaf of this level with a normal event, which is lifted by `base`. Builds anew what the leaf raises,
 /// and visits nothing else.
-#[cycle(raise)]
-#[tactic(auto, using(crate::proofs::Levels::own_numbers, crate::proofs::Shares::raised_lifts))]
+#[tactic(auto, using(crate::proofs::Joins::greatest_joins, crate::proofs::Levels::own_numbers, crate::proofs::Shares::raised_lifts))]
 fn raised(alloc: Global, level: u64, event: &Node, base: u64) -> Result<Node, AllocError>
     requires normal { IsNormal (tree event.now) }
     requires fits { base + greatest (tree event.now) < 2 ^ 64 }
@@ -101,35 +100,13 @@ fn raised(alloc: Global, level: u64, event: &Node, base: u64) -> Result<Node, Al
     }
     match event {
         Node::Leaf(_) => Ok(Node::Leaf(level)),
-        Node::Fork(number, halves) => raised_fork(alloc, level, *number, halves, base),
-        Node::HighLeft(number, high) => {
-            raised_fork(alloc, level, *number, &Halves::high_left(*high), base)
-        }
-        Node::HighRight(number, high) => {
-            raised_fork(alloc, level, *number, &Halves::high_right(*high), base)
+        Node::Fork(number, halves) => {
+            let least = base + *number;
+            let left = raised(alloc, level - least, &halves.left, 0)?;
+            let right = raised(alloc, level - least, &halves.right, 0)?;
+            Node::norm_of(alloc, least, left, right)
         }
     }
-}
-
-/// The same for the fork of a number that the leaf raises, over these halves.
-#[cycle(raise)]
-#[tactic(auto, using(crate::proofs::Joins::greatest_joins))]
-fn raised_fork(
-    alloc: Global,
-    level: u64,
-    number: u64,
-    halves: &Halves,
-    base: u64,
-) -> Result<Node, AllocError>
-    requires above { base + number < level }
-    requires normal { IsNormal (fork number (tree halves.now.left) (tree halves.now.right)) }
-    requires fits { base + greatest (fork number (tree halves.now.left) (tree halves.now.right)) < 2 ^ 64 }
-    ensures { IfOk result (λ node. tree node ≡ raised level base (fork number (tree halves.now.left) (tree halves.now.right))) }
-{
-    let least = base + number;
-    let left = raised(alloc, level - least, &halves.left, 0)?;
-    let right = raised(alloc, level - least, &halves.right, 0)?;
-    Node::norm_of(alloc, least, left, right)
 }
 
 /// What the join is of a leaf of this level, as the first, with a normal event, which is lifted by `base`.
@@ -152,7 +129,7 @@ fn join_leaf(alloc: Global, level: u64, event: &Node, base: u64) -> Result<Joine
 }
 
 /// What the join is of two normal events, which are lifted by these bases.
-#[cycle(join)]
+#[tactic(auto, using(crate::proofs::Joins::greatest_joins, crate::proofs::Shares::whole_joins))]
 fn join_nodes(
     alloc: Global,
     first: &Node,
@@ -166,89 +143,29 @@ fn join_nodes(
     requires second { second_base + greatest (tree second.now) < 2 ^ 64 }
     ensures { IfOk result (IsJoined base (tree first.now) second_base (tree second.now)) }
 {
-    match first {
-        Node::Leaf(m) => join_leaf(alloc, base + *m, second, second_base),
-        Node::Fork(m, halves) => { join_fork(alloc, first, *m, halves, base, second, second_base) }
-        Node::HighLeft(m, high) => {
-            let halves = Halves::high_left(*high);
-            join_fork(alloc, first, *m, &halves, base, second, second_base)
-        }
-        Node::HighRight(m, high) => {
-            let halves = Halves::high_right(*high);
-            join_fork(alloc, first, *m, &halves, base, second, second_base)
-        }
-    }
-}
-
-/// The same where the first is the fork of a number over these halves.
-#[cycle(join)]
-fn join_fork(
-    alloc: Global,
-    first: &Node,
-    number: u64,
-    halves: &Halves,
-    base: u64,
-    second: &Node,
-    second_base: u64,
-) -> Result<Joined, AllocError>
-    requires whole { fork number (tree halves.now.left) (tree halves.now.right) ≡ tree first.now }
-    requires first_normal { IsNormal (fork number (tree halves.now.left) (tree halves.now.right)) }
-    requires second_normal { IsNormal (tree second.now) }
-    requires first { base + greatest (fork number (tree halves.now.left) (tree halves.now.right)) < 2 ^ 64 }
-    requires second { second_base + greatest (tree second.now) < 2 ^ 64 }
-    ensures { IfOk result (IsJoined base (fork number (tree halves.now.left) (tree halves.now.right)) second_base (tree second.now)) }
-{
-    match second {
-        Node::Leaf(n) => {
+    match (first, second) {
+        (Node::Leaf(m), _) => join_leaf(alloc, base + *m, second, second_base),
+        (Node::Fork(_, _), Node::Leaf(n)) => {
             let joined = join_leaf(alloc, second_base + *n, first, base)?;
             Ok(joined.reversed())
         }
-        Node::Fork(n, others) => {
-            join_halves(alloc, number, halves, base, *n, others, second_base)
-        }
-        Node::HighLeft(n, high) => {
-            let others = Halves::high_left(*high);
-            join_halves(alloc, number, halves, base, *n, &others, second_base)
-        }
-        Node::HighRight(n, high) => {
-            let others = Halves::high_right(*high);
-            join_halves(alloc, number, halves, base, *n, &others, second_base)
+        (Node::Fork(m, halves), Node::Fork(n, others)) => {
+            let lifted = base + *m;
+            let other_lifted = second_base + *n;
+            let common = lifted.min(other_lifted);
+            let above = lifted - common;
+            let other_above = other_lifted - common;
+            let left = join_nodes(alloc, &halves.left, above, &others.left, other_above)?;
+            let right = join_nodes(alloc, &halves.right, above, &others.right, other_above)?;
+            if let Some(whole) = Joined::whole_of(&left, &right) {
+                return Ok(whole);
+            }
+            let left = left.into_node(&halves.left, above, &others.left, other_above)?;
+            let right = right.into_node(&halves.right, above, &others.right, other_above)?;
+            let node = Node::norm_of(alloc, common, left, right)?;
+            Ok(Joined::New(node))
         }
     }
-}
-
-/// The same where both are forks, of these numbers over these halves.
-#[cycle(join)]
-#[tactic(auto, using(crate::proofs::Joins::greatest_joins, crate::proofs::Shares::whole_joins))]
-fn join_halves(
-    alloc: Global,
-    m: u64,
-    halves: &Halves,
-    base: u64,
-    n: u64,
-    others: &Halves,
-    second_base: u64,
-) -> Result<Joined, AllocError>
-    requires first_normal { IsNormal (fork m (tree halves.now.left) (tree halves.now.right)) }
-    requires second_normal { IsNormal (fork n (tree others.now.left) (tree others.now.right)) }
-    requires first { base + greatest (fork m (tree halves.now.left) (tree halves.now.right)) < 2 ^ 64 }
-    requires second { second_base + greatest (fork n (tree others.now.left) (tree others.now.right)) < 2 ^ 64 }
-    ensures { IfOk result (IsJoined base (fork m (tree halves.now.left) (tree halves.now.right)) second_base (fork n (tree others.now.left) (tree others.now.right))) }
-{
-    let lifted = base + m;
-    let other_lifted = second_base + n;
-    let common = lifted.min(other_lifted);
-    let above = lifted - common;
-    let other_above = other_lifted - common;
-    let left = join_nodes(alloc, &halves.left, above, &others.left, other_above)?;
-    let right = join_nodes(alloc, &halves.right, above, &others.right, other_above)?;
-    if let Some(whole) = Joined::whole_of(&left, &right) {
-        return Ok(whole);
-    }
-    let left = left.into_node(&halves.left, above, &others.left, other_above)?;
-    let right = right.into_node(&halves.right, above, &others.right, other_above)?;
-    let node = Node::norm_of(alloc, common, left, right)?;
-    Ok(Joined::New(node))
 }
 
 /// The join of two normal events, in normal form.

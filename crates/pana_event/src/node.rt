@@ -1,6 +1,6 @@
 //! The nodes of event trees, for those who walk or build one: normal or not, with no limits of their own.
-ghost use Rattle.std.specs.Prelude.{◌≡◌, ◌+◌, ◌&&◌, ◌^◌, ◌<◌, ◌≤◌, max, IfOk};
-ghost use Rattle.pana_event.specs.Event.{IsNormal, are_same_leaf, fork, greatest, leaf, least, level, lift, norm, number, sink};
+ghost use Rattle.std.specs.Prelude.{◌≡◌, ◌+◌, ◌^◌, ◌<◌, ◌≤◌, max, IfOk};
+ghost use Rattle.pana_event.specs.Event.{IsNormal, are_same_leaf, depth, fork, greatest, least, level, lift, norm, number, sink};
 ghost use Rattle.pana_event.specs.Order.{is_below};
 ghost use Rattle.pana_event.specs.Shape.{tree};
 
@@ -15,10 +15,6 @@ pub enum Node {
     Leaf(u64),
     /// The levels of the two halves, each lifted by the number. Events may have the halves in common.
     Fork(u64, Arc<Halves, Global>),
-    /// The fork of its number over the leaf of the second on the left and the leaf 0 on the right. It takes no allocation.
-    HighLeft(u64, u64),
-    /// The fork of its number over the leaf 0 on the left and the leaf of the second on the right. It takes no allocation.
-    HighRight(u64, u64),
 }
 
 /// The left and the right half of a fork.
@@ -29,68 +25,6 @@ pub struct Halves {
     pub right: Node,
 }
 
-impl Halves {
-    /// The halves of a `HighLeft`: the leaf of this level, and the leaf 0. Takes no memory.
-    pub fn high_left(level: u64) -> Halves
-        ensures left { tree result.left ≡ leaf level }
-        ensures right { tree result.right ≡ leaf 0 }
-    {
-        Halves {
-            left: Node::Leaf(level),
-            right: Node::Leaf(0),
-        }
-    }
-
-    /// The halves of a `HighRight`: the leaf 0, and the leaf of this level. Takes no memory.
-    pub fn high_right(level: u64) -> Halves
-        ensures left { tree result.left ≡ leaf 0 }
-        ensures right { tree result.right ≡ leaf level }
-    {
-        Halves {
-            left: Node::Leaf(0),
-            right: Node::Leaf(level),
-        }
-    }
-
-    /// Whether the fork of a number over these halves is below another event, as `is_below` of its node says it.
-    #[cycle(below)]
-    fn is_below(&self, number: u64, base: u64, other: &Node, other_base: u64) -> bool
-        requires first { base + greatest (fork number (tree self.now.left) (tree self.now.right)) < 2 ^ 64 }
-        requires second { other_base + greatest (tree other.now) < 2 ^ 64 }
-        ensures { result ≡ is_below base (fork number (tree self.now.left) (tree self.now.right)) other_base (tree other.now) }
-    {
-        let lifted = base + number;
-        let other_lifted = other_base + other.number();
-        if lifted > other_lifted {
-            return false;
-        }
-        match other {
-            Node::Leaf(_) => {
-                self.left.is_below(lifted, other, other_base)
-                    && self.right.is_below(lifted, other, other_base)
-            }
-            Node::Fork(_, others) => self.are_below(lifted, others, other_lifted),
-            Node::HighLeft(_, level) => {
-                self.are_below(lifted, &Halves::high_left(*level), other_lifted)
-            }
-            Node::HighRight(_, level) => {
-                self.are_below(lifted, &Halves::high_right(*level), other_lifted)
-            }
-        }
-    }
-
-    /// Whether each of these halves is below that of another fork, where they are lifted by these.
-    #[cycle(below)]
-    fn are_below(&self, lifted: u64, others: &Halves, other_lifted: u64) -> bool
-        requires first { lifted + max (greatest (tree self.now.left)) (greatest (tree self.now.right)) < 2 ^ 64 }
-        requires second { other_lifted + max (greatest (tree others.now.left)) (greatest (tree others.now.right)) < 2 ^ 64 }
-        ensures { result ≡ (is_below lifted (tree self.now.left) other_lifted (tree others.now.left) && is_below lifted (tree self.now.right) other_lifted (tree others.now.right)) }
-    {
-        self.left.is_below(lifted, &others.left, other_lifted)
-            && self.right.is_below(lifted, &others.right, other_lifted)
-    }
-}
-
 impl Node {
     /// The own number of the root. Takes no memory; O(1).
     pub fn number(&self) -> u64
@@ -99,8 +33,6 @@ impl Node {
         match self {
             Node::Leaf(number) => *number,
             Node::Fork(number, _) => *number,
-            Node::HighLeft(number, _) => *number,
-            Node::HighRight(number, _) => *number,
         }
     }
 
@@ -126,14 +58,6 @@ impl Node {
                 [false, rest @ ..] => *number + halves.left.level(rest),
                 [true, rest @ ..] => *number + halves.right.level(rest),
             },
-            Node::HighLeft(number, level) => match point {
-                [false, ..] => *number + *level,
-                _ => *number,
-            },
-            Node::HighRight(number, level) => match point {
-                [true, ..] => *number + *level,
-                _ => *number,
-            },
         }
     }
 
@@ -148,8 +72,6 @@ impl Node {
                 let left = halves.left.greatest();
                 *number + left.max(halves.right.greatest())
             }
-            Node::HighLeft(number, level) => *number + *level,
-            Node::HighRight(number, level) => *number + *level,
         }
     }
 
@@ -164,8 +86,6 @@ impl Node {
         match self {
             Node::Leaf(number) => Ok(Node::Leaf(*number)),
             Node::Fork(number, halves) => Ok(Node::Fork(*number, Arc::try_clone(halves)?)),
-            Node::HighLeft(number, level) => Ok(Node::HighLeft(*number, *level)),
-            Node::HighRight(number, level) => Ok(Node::HighRight(*number, *level)),
         }
     }
 
@@ -173,15 +93,10 @@ impl Node {
     ///
     /// # Errors
     ///
-    /// `AllocError` where an allocation failed. Allocates once, or not at all over two leaves of which one is 0.
+    /// `AllocError` where an allocation failed. Allocates once.
     pub fn fork_of(alloc: Global, number: u64, left: Node, right: Node) -> Result<Node, AllocError>
         ensures { IfOk result (λ node. tree node ≡ fork number (tree left) (tree right)) }
     {
-        match (&left, &right) {
-            (Node::Leaf(level), Node::Leaf(0)) => return Ok(Node::HighLeft(number, *level)),
-            (Node::Leaf(0), Node::Leaf(level)) => return Ok(Node::HighRight(number, *level)),
-            _ => {}
-        }
         let halves = Arc::new(alloc, Halves { left, right })?;
         Ok(Node::Fork(number, halves))
     }
@@ -191,7 +106,7 @@ impl Node {
     ///
     /// # Errors
     ///
-    /// `AllocError` where an allocation failed. Allocates at most once, and not over two leaves.
+    /// `AllocError` where an allocation failed. Allocates at most once.
     pub fn norm_of(
         alloc: Global,
         number: u64,
@@ -213,20 +128,25 @@ impl Node {
 
     /// Whether the event is below another, where both are in normal form; they are lifted by `base` and
     /// `other_base`. Takes no memory; visits each node at most once.
-    #[cycle(below)]
     pub fn is_below(&self, base: u64, other: &Node, other_base: u64) -> bool
         requires first { base + greatest (tree self.now) < 2 ^ 64 }
         requires second { other_base + greatest (tree other.now) < 2 ^ 64 }
         ensures { result ≡ is_below base (tree self.now) other_base (tree other.now) }
     {
-        match self {
-            Node::Leaf(number) => base + *number <= other_base + other.number(),
-            Node::Fork(number, halves) => halves.is_below(*number, base, other, other_base),
-            Node::HighLeft(number, level) => {
-                Halves::high_left(*level).is_below(*number, base, other, other_base)
+        match (self, other) {
+            (Node::Leaf(m), _) => base + *m <= other_base + other.number(),
+            (Node::Fork(m, halves), Node::Leaf(n)) => {
+                let lifted = base + *m;
+                lifted <= other_base + *n
+                    && halves.left.is_below(lifted, other, other_base)
+                    && halves.right.is_below(lifted, other, other_base)
             }
-            Node::HighRight(number, level) => {
-                Halves::high_right(*level).is_below(*number, base, other, other_base)
+            (Node::Fork(m, halves), Node::Fork(n, others)) => {
+                let lifted = base + *m;
+                let other_lifted = other_base + *n;
+                lifted <= other_lifted
+                    && halves.left.is_below(lifted, &others.left, other_lifted)
+                    && halves.right.is_below(lifted, &others.right, other_lifted)
             }
         }
     }
@@ -261,8 +181,6 @@ impl Node {
         match self {
             Node::Leaf(number) => *number += by,
             Node::Fork(number, _) => *number += by,
-            Node::HighLeft(number, _) => *number += by,
-            Node::HighRight(number, _) => *number += by,
         }
     }
 
@@ -273,8 +191,6 @@ impl Node {
         match self {
             Node::Leaf(number) => *number -= by,
             Node::Fork(number, _) => *number -= by,
-            Node::HighLeft(number, _) => *number -= by,
-            Node::HighRight(number, _) => *number -= by,
         }
     }
 }

@@ -1,12 +1,12 @@
 //! Whether one stamp's copy knows all that another's does, asked first where it is most likely that it doesn't.
-ghost use Rattle.std.specs.Prelude.{◌≡◌, ◌+◌, ◌^◌, ◌<◌, ◌&&◌, nat_le, max, if◌then◌else◌};
+ghost use Rattle.std.specs.Prelude.{◌≡◌, ◌+◌, ◌^◌, ◌<◌, if◌then◌else◌};
 ghost use Rattle.pana_event.specs.Event.{greatest};
 ghost use Rattle.pana_event.specs.Order.{is_below, is_leq};
 ghost use Rattle.pana_event.specs.Relation.{tested_relation};
 ghost use Rattle.pana_event.specs.Shape.{tree};
 ghost use Rattle.pana_event.specs.declared.rel.Rel.TheVariants.{Equal, Older, Newer, Conflict};
 
-use pana_event::{Halves, Node, Rel};
+use pana_event::{Node, Rel};
 use pana_id::{Halves as IdHalves, Node as IdNode};
 use pana_stamp::Stamp;
 
@@ -37,47 +37,25 @@ fn is_below_in(ids: &IdHalves, event: &Node, base: u64, other: &Node, other_base
 {
     match (event, other) {
         (Node::Fork(m, halves), Node::Fork(n, others)) => {
-            are_below_in(ids, halves, base + *m, others, other_base + *n)
-        }
-        (Node::Fork(m, halves), Node::HighLeft(n, level)) => {
-            let others = Halves::high_left(*level);
-            are_below_in(ids, halves, base + *m, &others, other_base + *n)
-        }
-        (Node::Fork(m, halves), Node::HighRight(n, level)) => {
-            let others = Halves::high_right(*level);
-            are_below_in(ids, halves, base + *m, &others, other_base + *n)
+            let lifted = base + *m;
+            let other_lifted = other_base + *n;
+            if lifted > other_lifted {
+                return false;
+            }
+            if ids.right.is_zero() {
+                is_below_by(&ids.left, &halves.left, lifted, &others.left, other_lifted)
+                    && halves.right.is_below(lifted, &others.right, other_lifted)
+            } else {
+                is_below_by(
+                    &ids.right,
+                    &halves.right,
+                    lifted,
+                    &others.right,
+                    other_lifted,
+                ) && halves.left.is_below(lifted, &others.left, other_lifted)
+            }
         }
         _ => event.is_below(base, other, other_base),
-    }
-}
-
-/// The same for the forks over these halves, whose own numbers are lifted to these.
-#[cycle(order)]
-fn are_below_in(
-    ids: &IdHalves,
-    halves: &Halves,
-    lifted: u64,
-    others: &Halves,
-    other_lifted: u64,
-) -> bool
-    requires first { lifted + max (greatest (tree halves.now.left)) (greatest (tree halves.now.right)) < 2 ^ 64 }
-    requires second { other_lifted + max (greatest (tree others.now.left)) (greatest (tree others.now.right)) < 2 ^ 64 }
-    ensures { result ≡ (nat_le lifted other_lifted && (is_below lifted (tree halves.now.left) other_lifted (tree others.now.left) && is_below lifted (tree halves.now.right) other_lifted (tree others.now.right))) }
-{
-    if lifted > other_lifted {
-        return false;
-    }
-    if ids.right.is_zero() {
-        is_below_by(&ids.left, &halves.left, lifted, &others.left, other_lifted)
-            && halves.right.is_below(lifted, &others.right, other_lifted)
-    } else {
-        is_below_by(
-            &ids.right,
-            &halves.right,
-            lifted,
-            &others.right,
-            other_lifted,
-        ) && halves.left.is_below(lifted, &others.left, other_lifted)
     }
 }
 

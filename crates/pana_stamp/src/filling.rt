@@ -8,7 +8,7 @@ ghost use Rattle.pana_stamp.specs.Fill.{IsFilled, fill as fill_of};
 ghost use Rattle.pana_stamp.specs.Raised.{IsRaised};
 ghost use Rattle.pana_stamp.specs.inner.Renewed.{Differs, filled_beside, new_or};
 
-use pana_event::{EventTree, Halves, Node};
+use pana_event::{EventTree, Node};
 use pana_id::{Halves as IdHalves, IdTree, Node as IdNode};
 use std::alloc::{AllocError, Global};
 
@@ -86,30 +86,24 @@ fn fill_single(alloc: Global, number: u64, event: &Node) -> Result<Option<Node>,
 {
     match event {
         Node::Leaf(_) => Ok(None),
-        Node::Fork(base, halves) => fill_half(alloc, number, *base, halves),
-        Node::HighLeft(base, level) => {
-            fill_half(alloc, number, *base, &Halves::high_left(*level))
-        }
-        Node::HighRight(base, level) => {
-            fill_half(alloc, number, *base, &Halves::high_right(*level))
-        }
+        Node::Fork(base, halves) => fill_half(alloc, number, *base, &halves.left, &halves.right),
     }
 }
 
-/// The same for the fork of a number over two halves.
+/// The same for the fork of a number and two halves.
 #[cycle(one_place)]
 fn fill_half(
     alloc: Global,
     number: u64,
     base: u64,
-    halves: &Halves,
+    left: &Node,
+    right: &Node,
 ) -> Result<Option<Node>, AllocError>
-    requires normal { IsNormal (fork base (event_of halves.now.left) (event_of halves.now.right)) }
-    requires fits { greatest (fork base (event_of halves.now.left) (event_of halves.now.right)) < 2 ^ 64 }
-    ensures tree { IfOk result (λ new. new_or new (fork base (event_of halves.now.left) (event_of halves.now.right)) ≡ fill_of (id_of (ids.Single number)) (fork base (event_of halves.now.left) (event_of halves.now.right))) }
-    ensures changed { IfOk result (Differs (fork base (event_of halves.now.left) (event_of halves.now.right))) }
+    requires normal { IsNormal (fork base (event_of left.now) (event_of right.now)) }
+    requires fits { greatest (fork base (event_of left.now) (event_of right.now)) < 2 ^ 64 }
+    ensures tree { IfOk result (λ new. new_or new (fork base (event_of left.now) (event_of right.now)) ≡ fill_of (id_of (ids.Single number)) (fork base (event_of left.now) (event_of right.now))) }
+    ensures changed { IfOk result (Differs (fork base (event_of left.now) (event_of right.now))) }
 {
-    let Halves { left, right } = halves;
     if number % 2 == 0 {
         let filled = fill_place(alloc, number / 2, left, right)?;
         with_halves(alloc, base, left, filled, right, None)
@@ -142,6 +136,7 @@ fn fill_place(
 
 /// The same for the id with these halves.
 #[cycle(walk)]
+#[tactic(auto, using(crate::proofs::Fills::fill_limits))]
 fn fill_halves(alloc: Global, ids: &IdHalves, event: &Node) -> Result<Option<Node>, AllocError>
     requires normal { IsNormal (event_of event.now) }
     requires fits { greatest (event_of event.now) < 2 ^ 64 }
@@ -150,48 +145,25 @@ fn fill_halves(alloc: Global, ids: &IdHalves, event: &Node) -> Result<Option<Nod
 {
     match event {
         Node::Leaf(_) => Ok(None),
-        Node::Fork(number, halves) => fill_fork(alloc, ids, *number, halves),
-        Node::HighLeft(number, level) => {
-            fill_fork(alloc, ids, *number, &Halves::high_left(*level))
-        }
-        Node::HighRight(number, level) => {
-            fill_fork(alloc, ids, *number, &Halves::high_right(*level))
-        }
-    }
-}
-
-/// The same for that id and the fork of a number over two halves.
-#[cycle(walk)]
-#[tactic(auto, using(crate::proofs::Fills::fill_limits))]
-fn fill_fork(
-    alloc: Global,
-    ids: &IdHalves,
-    number: u64,
-    halves: &Halves,
-) -> Result<Option<Node>, AllocError>
-    requires normal { IsNormal (fork number (event_of halves.now.left) (event_of halves.now.right)) }
-    requires fits { greatest (fork number (event_of halves.now.left) (event_of halves.now.right)) < 2 ^ 64 }
-    ensures tree { IfOk result (λ new. new_or new (fork number (event_of halves.now.left) (event_of halves.now.right)) ≡ fill_of (pair (id_of ids.now.left) (id_of ids.now.right)) (fork number (event_of halves.now.left) (event_of halves.now.right))) }
-    ensures changed { IfOk result (Differs (fork number (event_of halves.now.left) (event_of halves.now.right))) }
-{
-    match (&ids.left, &ids.right) {
-        (IdNode::One, id) => {
-            let right = fill_node(alloc, id, &halves.right)?;
-            let level = halves.left.greatest().max(least_of(&right, &halves.right));
-            let left = leaf_for(&halves.left, level);
-            with_halves(alloc, number, &halves.left, left, &halves.right, right)
-        }
-        (id, IdNode::One) => {
-            let left = fill_node(alloc, id, &halves.left)?;
-            let level = halves.right.greatest().max(least_of(&left, &halves.left));
-            let right = leaf_for(&halves.right, level);
-            with_halves(alloc, number, &halves.left, left, &halves.right, right)
-        }
-        (left_id, right_id) => {
-            let left = fill_node(alloc, left_id, &halves.left)?;
-            let right = fill_node(alloc, right_id, &halves.right)?;
-            with_halves(alloc, number, &halves.left, left, &halves.right, right)
-        }
+        Node::Fork(number, halves) => match (&ids.left, &ids.right) {
+            (IdNode::One, id) => {
+                let right = fill_node(alloc, id, &halves.right)?;
+                let level = halves.left.greatest().max(least_of(&right, &halves.right));
+                let left = leaf_for(&halves.left, level);
+                with_halves(alloc, *number, &halves.left, left, &halves.right, right)
+            }
+            (id, IdNode::One) => {
+                let left = fill_node(alloc, id, &halves.left)?;
+                let level = halves.right.greatest().max(least_of(&left, &halves.left));
+                let right = leaf_for(&halves.right, level);
+                with_halves(alloc, *number, &halves.left, left, &halves.right, right)
+            }
+            (left_id, right_id) => {
+                let left = fill_node(alloc, left_id, &halves.left)?;
+                let right = fill_node(alloc, right_id, &halves.right)?;
+                with_halves(alloc, *number, &halves.left, left, &halves.right, right)
+            }
+        },
     }
 }
 

@@ -1,6 +1,6 @@
 //! Growing: one more at the place of an id that costs least.
 ghost use Rattle.std.specs.Prelude.{◌≡◌, ◌+◌, ◌^◌, ◌<◌, ◌≤◌, IfOk, false};
-ghost use Rattle.pana_event.specs.Event.{greatest};
+ghost use Rattle.pana_event.specs.Event.{greatest, leaf};
 ghost use Rattle.pana_event.specs.Shape.{tree as event_of};
 ghost use Rattle.pana_id.specs.Id.{depth as depth_of, is_zero, pair};
 ghost use Rattle.pana_id.specs.Node.{single, tree as id_of};
@@ -10,7 +10,7 @@ ghost use Rattle.pana_stamp.specs.Grow.{IsGrown, cost_of, event_if, goes_right a
 ghost use Rattle.pana_stamp.specs.Raised.{IsRaised};
 
 use crate::cost::Cost;
-use pana_event::{EventTree, Halves, Node};
+use pana_event::{EventTree, Node};
 use pana_id::{Halves as IdHalves, IdTree, Node as IdNode};
 use std::alloc::{AllocError, Global};
 
@@ -91,8 +91,8 @@ fn grow_single(alloc: Global, number: u64, event: &Node) -> Result<(Node, Cost),
     ensures tree { IfOk result (λ two. event_of two.0 ≡ grow_of (id_of (ids.Single number)) (event_of event.now)) }
     ensures cost { IfOk result (λ two. two.1 ≡ cost_of (id_of (ids.Single number)) (event_of event.now)) }
 {
-    let mut space = Halves::high_left(0);
-    let (left, right) = halves_of(event, &mut space);
+    let zero = Node::Leaf(0);
+    let (left, right) = halves_of(event, &zero);
     let opened = opened_by(event);
     if number % 2 == 0 {
         let (grown, cost) = grow_place(alloc, number / 2, left)?;
@@ -151,8 +151,8 @@ fn least_cost_in(ids: &IdHalves, event: &Node) -> Cost
     ensures opened { result.opened ≤ depth_of (pair (id_of ids.now.left) (id_of ids.now.right)) }
     ensures levels { result.levels ≤ depth_of (pair (id_of ids.now.left) (id_of ids.now.right)) }
 {
-    let mut space = Halves::high_left(0);
-    let (left_event, right_event) = halves_of(event, &mut space);
+    let zero = Node::Leaf(0);
+    let (left_event, right_event) = halves_of(event, &zero);
     let left = least_cost(&ids.left, left_event);
     let right = least_cost(&ids.right, right_event);
     let opened = opened_by(event);
@@ -210,8 +210,8 @@ fn grow_half(
     if opened < by || levels == 0 {
         return Ok(None);
     }
-    let mut space = Halves::high_left(0);
-    let (left, right) = halves_of(event, &mut space);
+    let zero = Node::Leaf(0);
+    let (left, right) = halves_of(event, &zero);
     if let Some(grown) = grow_at(alloc, &ids.right, right, opened - by, levels - 1)? {
         let kept = left.share()?;
         let fork = Node::fork_of(alloc, event.number(), kept, grown)?;
@@ -240,22 +240,17 @@ fn opened_by(event: &Node) -> u32
     match event {
         Node::Leaf(_) => 1,
         Node::Fork(_, _) => 0,
-        Node::HighLeft(_, _) => 0,
-        Node::HighRight(_, _) => 0,
     }
 }
 
-/// The halves of the event, where a leaf is taken as a fork of two leaves 0. Those of an event that has none in memory are put
-/// into this space.
-fn halves_of<'a>(event: &'a Node, space: &'a mut Halves) -> (&'a Node, &'a Node)
+/// The halves of the event, where a leaf is taken as a fork of two leaves 0.
+fn halves_of<'a>(event: &'a Node, zero: &'a Node) -> (&'a Node, &'a Node)
+    requires { event_of zero.now ≡ leaf 0 }
     ensures left { event_of result.0.now ≡ left_of (event_of event.now) }
     ensures right { event_of result.1.now ≡ right_of (event_of event.now) }
 {
     match event {
-        Node::Fork(_, halves) => return (&halves.left, &halves.right),
-        Node::Leaf(_) => *space = Halves::high_left(0),
-        Node::HighLeft(_, level) => *space = Halves::high_left(*level),
-        Node::HighRight(_, level) => *space = Halves::high_right(*level),
+        Node::Leaf(_) => (zero, zero),
+        Node::Fork(_, halves) => (&halves.left, &halves.right),
     }
-    (&space.left, &space.right)
 }

@@ -100,7 +100,7 @@ fn build_leaf(text: &[u8], total: usize) -> Result<(Node, &[u8]), TextFault>
     Ok((Node::Leaf(number.unwrap_or(u64::MAX)), rest))
 }
 
-/// The fork of these parts, after which a parenthesis closes. Takes at most a box.
+/// The fork of these parts, after which a parenthesis closes. Takes a box.
 /// A number above the greatest `u64` is taken for that.
 fn build_fork(
     alloc: Global,
@@ -117,7 +117,7 @@ fn build_fork(
     Ok((Node::fork_of(alloc, number, left, right)?, rest))
 }
 
-/// The event that the text begins with, and what follows it. `deeper` more forks may open. Takes at most a box a fork.
+/// The event that the text begins with, and what follows it. `deeper` more forks may open. Takes a box a fork.
 /// A number above the greatest `u64` is taken for that.
 #[tactic(auto, using(crate::proofs::Steps::deeper))]
 pub(crate) fn build_event(

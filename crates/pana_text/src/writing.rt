@@ -1,7 +1,7 @@
 //! The texts of stamps.
 ghost use Rattle.std.specs.Prelude.{◌≡◌, ◌++◌, ◌^◌, ◌<◌, IfOk, OnOk, decimal, string_bytes};
 ghost use Rattle.pana_id.specs.{Id.pair, Node.tree as id_of};
-ghost use Rattle.pana_event.specs.Event.{fork, greatest};
+ghost use Rattle.pana_event.specs.Event.{greatest};
 ghost use Rattle.pana_event.specs.Shape.{tree as event_of};
 ghost use Rattle.pana_text.specs.Text.{event_text, id_text, stamp_text};
 
@@ -60,35 +60,22 @@ fn write_number(text: &mut String, number: u64) -> Result<(), AllocError>
 }
 
 /// Appends the text of an event.
-#[cycle(events)]
+#[tactic(auto, using(crate::proofs::Appends::appends))]
 fn write_event(text: &mut String, event: &pana_event::Node) -> Result<(), AllocError>
     ensures { OnOk result (string_bytes text.new ≡ string_bytes text.old ++ event_text (event_of event.now)) }
 {
     match event {
         pana_event::Node::Leaf(number) => write_number(text, *number),
-        pana_event::Node::Fork(number, halves) => write_fork(text, *number, halves),
-        pana_event::Node::HighLeft(number, level) => {
-            write_fork(text, *number, &pana_event::Halves::high_left(*level))
-        }
-        pana_event::Node::HighRight(number, level) => {
-            write_fork(text, *number, &pana_event::Halves::high_right(*level))
+        pana_event::Node::Fork(number, halves) => {
+            text.push('(')?;
+            write_number(text, *number)?;
+            text.push(',')?;
+            write_event(text, &halves.left)?;
+            text.push(',')?;
+            write_event(text, &halves.right)?;
+            text.push(')')
         }
     }
-}
-
-/// Appends the text of the fork of a number over these halves.
-#[cycle(events)]
-#[tactic(auto, using(crate::proofs::Appends::appends))]
-fn write_fork(text: &mut String, number: u64, halves: &pana_event::Halves) -> Result<(), AllocError>
-    ensures { OnOk result (string_bytes text.new ≡ string_bytes text.old ++ event_text (fork number (event_of halves.now.left) (event_of halves.now.right))) }
-{
-    text.push('(')?;
-    write_number(text, number)?;
-    text.push(',')?;
-    write_event(text, &halves.left)?;
-    text.push(',')?;
-    write_event(text, &halves.right)?;
-    text.push(')')
 }
 
 /// The one text of the stamp, appended piece by piece to one `String`. Visits each node once. A text of up to 128 bytes takes one

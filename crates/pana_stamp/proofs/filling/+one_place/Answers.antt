@@ -15,22 +15,22 @@ fill_place-returns-clause-tree t c =
 
 pub fill_half-with_halves-requires-clause-fits : goal.fill_half-with_halves-requires-clause-fits
 fill_half-with_halves-requires-clause-fits t c =
-    omega (arith, c.requires.fits, ap greatest c.in_ok-filled.ensures.tree, greatest-beside (single 64 (c.args.number / 2)) (event_of c.args.halves.now.left) (event_of c.args.halves.now.right))
+    omega (arith, c.requires.fits, ap greatest c.in_ok-filled.ensures.tree, greatest-beside (single 64 (c.args.number / 2)) (event_of c.args.left.now) (event_of c.args.right.now))
 
 pub fill_half-with_halves-requires-else-number-eq0-clause-fits : goal.fill_half-with_halves-requires-else-number-eq0-clause-fits
 fill_half-with_halves-requires-else-number-eq0-clause-fits t c =
-    omega (arith, c.requires.fits, ap greatest c.in_ok-filled-2.ensures.tree, greatest-beside (single 64 (c.args.number / 2)) (event_of c.args.halves.now.right) (event_of c.args.halves.now.left))
+    omega (arith, c.requires.fits, ap greatest c.in_ok-filled-2.ensures.tree, greatest-beside (single 64 (c.args.number / 2)) (event_of c.args.right.now) (event_of c.args.left.now))
 
 pub fill_half-returns-in_ok-filled-clause-tree : goal.fill_half-returns-in_ok-filled-clause-tree
 fill_half-returns-in_ok-filled-clause-tree t c =
-    subst (λ f. IfOk c.with_halves.result (λ new. new_or new (fork c.args.base (event_of c.args.halves.now.left) (event_of c.args.halves.now.right)) ≡ f))
-    (left_filled c.args.number c.args.base (event_of c.args.halves.now.left) (event_of c.args.halves.now.right) (new_or c.in_ok-filled.filled (event_of c.args.halves.now.left)) c.ranges.number.fits c.if-number-eq0.true c.in_ok-filled.ensures.tree)
+    subst (λ f. IfOk c.with_halves.result (λ new. new_or new (fork c.args.base (event_of c.args.left.now) (event_of c.args.right.now)) ≡ f))
+    (left_filled c.args.number c.args.base (event_of c.args.left.now) (event_of c.args.right.now) (new_or c.in_ok-filled.filled (event_of c.args.left.now)) c.ranges.number.fits c.if-number-eq0.true c.in_ok-filled.ensures.tree)
     c.with_halves.ensures.tree
 
 pub fill_half-returns-in_ok-filled-2-clause-tree : goal.fill_half-returns-in_ok-filled-2-clause-tree
 fill_half-returns-in_ok-filled-2-clause-tree t c =
-    subst (λ f. IfOk c.with_halves-else-number-eq0.result (λ new. new_or new (fork c.args.base (event_of c.args.halves.now.left) (event_of c.args.halves.now.right)) ≡ f))
-    (right_filled c.args.number c.args.base (event_of c.args.halves.now.left) (event_of c.args.halves.now.right) (new_or c.in_ok-filled-2.filled (event_of c.args.halves.now.right)) c.ranges.number.fits c.if-number-eq0.false c.in_ok-filled-2.ensures.tree)
+    subst (λ f. IfOk c.with_halves-else-number-eq0.result (λ new. new_or new (fork c.args.base (event_of c.args.left.now) (event_of c.args.right.now)) ≡ f))
+    (right_filled c.args.number c.args.base (event_of c.args.left.now) (event_of c.args.right.now) (new_or c.in_ok-filled-2.filled (event_of c.args.right.now)) c.ranges.number.fits c.if-number-eq0.false c.in_ok-filled-2.ensures.tree)
     c.with_halves-else-number-eq0.ensures.tree
 
 pub fill_single-returns-in-Leaf-clause-tree : goal.fill_single-returns-in-Leaf-clause-tree
