@@ -1,7 +1,7 @@
 -- What the tests and the parts of a pair are where a half isn't 0.
 use Rattle.std.proofs.Common.{◌≡◌, ℕ, suc, ◌-◌, true, false, ◌&&◌, ◌≤◌, nat_lt, IsTrue, refl, sym, ap, ap₂, subst, ◌∙◌, arith}
 use Rattle.std.proofs.lemmas.Bool.{both_ways}
-use Rattle.pana_id.specs.Id.{Id, zero_id, one_id, pair, is_zero, is_one, is_single, are_disjoint, parts, norm, sum_of}
+use Rattle.pana_id.specs.Id.{Id, zero_id, one_id, pair, is_zero, is_one, is_single, are_disjoint, parts, norm}
 use Rattle.pana_id.specs.Node.{tree}
 use Rattle.pana_id.specs.declared.node.Node.{Node}
 use Rattle.pana_id.specs.declared.node.Node.TheVariants.{Zero, One, Single, Pair'}
@@ -27,11 +27,6 @@ pub disjoint_zero : (i : Id) → are_disjoint i zero_id ≡ true
 disjoint_zero zero_id = refl
 disjoint_zero one_id = refl
 disjoint_zero (pair a b) = refl
-
-pub sum_zero : (i : Id) → sum_of i zero_id ≡ i
-sum_zero zero_id = refl
-sum_zero one_id = refl
-sum_zero (pair a b) = refl
 
 pub single_left : (i : Id) (at : ℕ) → is_single (pair i zero_id) at ≡ (nat_lt 0 at && is_single i (at - 1))
 single_left zero_id at = refl
@@ -104,10 +99,6 @@ single_shallow i at shallow =
 pub one_meets : (i j : Id) → i ≡ one_id → is_zero j ≡ false → IsTrue (are_disjoint i j) → ⊥
 one_meets i j all some apart =
     both_ways (are_disjoint one_id j) (disjoint_one j some) (subst (λ i. are_disjoint i j ≡ true) all apart)
-
-pub meets_one : (i j : Id) → j ≡ one_id → is_zero i ≡ false → IsTrue (are_disjoint i j) → ⊥
-meets_one i j all some apart =
-    both_ways (are_disjoint i one_id) (one_disjoint i some) (subst (λ j. are_disjoint i j ≡ true) all apart)
 
 pub other_node : (node : Node) → (node ≡ One → ⊥) → is_one (tree node) ≡ false
 other_node Zero other = refl

@@ -55,7 +55,7 @@ right_number n few =
     let half : (2 * n + 3) / 2 ≡ suc n = omega arith in
     right_single (2 * n + 3) (omega (arith, few)) (λ even. omega (arith, even)) ∙ ap (λ k. pair zero_id (single 64 k)) half
 
--- a place is no deeper than choices are told
+-- a place is no deeper than the choices that are counted
 pub depth-single_at : (most n : ℕ) → depth (single most n) ≤ most
 depth-single_at most zero = omega arith
 depth-single_at zero (suc n) = omega arith
