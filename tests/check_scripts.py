@@ -32,8 +32,8 @@ while [ "$1" != -o ]; do shift; done
 printf '#!/bin/sh\\necho answers\\n' >"$2"
 chmod +x "$2"
 """
-# What a library is follows from its crate's code, less the comments.
-BUILD = """case $to in *.o) touch "$to" ;; *) mkdir -p "$to"; cat src/*.rt | grep -v '^//' >"$to/format" ;; esac; echo logic=proved"""
+# What a library is follows from its crate's code, less the comments. The kit writes none onto a part of one.
+BUILD = """case $to in *.o) touch "$to" ;; *) [ ! -e "$to" ] || [ -e "$to/format" ] || { echo "not an earlier rlib"; exit 1; }; mkdir -p "$to"; cat src/*.rt | grep -v '^//' >"$to/format" ;; esac; echo logic=proved"""
 PROGRAM = "mkdir -p out; printf '#!/bin/sh\\necho answers\\n' >out/panad; chmod +x out/panad"
 # What becomes of an edit is what its file says, or else what the file `all` beside `does` says.
 EDITS = """passed=2 failed=0
@@ -243,6 +243,14 @@ def ended_alone(kit):
     wait_for_call(kit, "ended")
     if started.returncode != 130:
         yield f"it ended with {started.returncode}"
+
+
+def left_over(kit):
+    """What a build that was broken off has written of a library is gone before its crate is proved again."""
+    (kit.repository / ".build" / "rlib" / "low.rlib" / "lang").mkdir(parents=True)
+    status, output, error = kit.run("./panad", "run")
+    if (status, output) != (0, "answers\n"):
+        yield f"it ended with {status}, {output!r}, {error!r}"
 
 
 def gate_that_passes(kit):
@@ -471,7 +479,7 @@ def passes(check):
     return not found
 
 
-CHECKS = (other_arguments, first_use, on_a_terminal, failed_proof, two_at_a_time, interrupted, ended_alone, gate_that_passes, quick)
+CHECKS = (other_arguments, first_use, on_a_terminal, failed_proof, two_at_a_time, interrupted, ended_alone, left_over, gate_that_passes, quick)
 CHECKS += (taken_over, three_crates, changed_meanwhile, killed_prover, text_first, how_long, untried_edits, stale_edits, wrong_record, edits_not_refused, edits_of_failed_crates, all_edits, edits_of_crates)
 
 

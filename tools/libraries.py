@@ -50,6 +50,12 @@ class BuildFolder:
     def packed(self, name):
         return self.libraries / f"{name}.tgz"
 
+    def clear(self, name):
+        """Takes away the note of a crate's library, and of the library what a build that was broken off has left, onto which the kit writes none."""
+        self.stamp(name).unlink(missing_ok=True)
+        if not (self.library(name) / "format").is_file():
+            shutil.rmtree(self.library(name), ignore_errors=True)
+
     def keep(self, name, made_of):
         """Notes of what a crate's library was made, where that is still what it would be made of."""
         if name != PROGRAM and self.sum(name) == made_of:

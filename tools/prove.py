@@ -34,7 +34,7 @@ class Prover:
         self.name, self.jobs, self.made_of = name, jobs, folder.sum(name)
         self.begun, self.printed, self.took = time.monotonic(), b"", ""
         how = {"stdin": subprocess.DEVNULL, "stdout": subprocess.PIPE, "stderr": subprocess.STDOUT, "close_fds": False, "start_new_session": True}
-        folder.stamp(name).unlink(missing_ok=True)
+        folder.clear(name)
         self.process = subprocess.Popen(folder.words(name, jobs), cwd=TOP / "crates" / name, **how)
 
     def fileno(self):
